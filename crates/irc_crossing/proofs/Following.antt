@@ -70,11 +70,11 @@ module _ (piece : ℕ) (nick : List ℕ) (log : List Entry) where
         by false = no_word (means gone_log) means_none
 
 pub who_is_gone_is_left_out : WhoIsGoneIsLeftOut
-who_is_gone_is_left_out piece nick log line message read from is other =
+who_is_gone_is_left_out piece nick log line message read from is other is_held =
     let gone = gone_log piece nick log in
-    ap (read_given gone) read
+    ap (read_given gone is_held) read
     ∙ ap (λ b. if b then option_map_or
-    (λ (change : Change). nick_given message (through (Some change) gone)) (change_of message)
+    (λ (change : Change). nick_given is_held message (through (Some change) gone)) (change_of message)
     AsItCame else given_by gone message message.prefix) other
     ∙ ap (given_by gone message) from
     ∙ ap (given_from gone message) (no_doer piece nick log is message)

@@ -1,6 +1,8 @@
 -- Where nothing has crossed.
 use Rattle.std.proofs.Common.{◌≡◌, ℕ, zero, suc, Bool, true, false, ◌&&◌, Option, Some, None, Result}
-use Rattle.std.proofs.Common.{Ok, Err, List, [], ◌∷◌, refl, sym, ◌∙◌, ap, if◌then◌else◌}
+use Rattle.std.proofs.Common.{Ok, Err, List, [], ◌∷◌, length, nat_eq, refl, sym, ◌∙◌, ap}
+use Rattle.std.proofs.Common.{arith, if◌then◌else◌}
+use Rattle.std.proofs.lemmas.Bool.{eqb-true}
 use Rattle.std.proofs.lemmas.Slice.Eq.{bytes_eq-Decides}
 use Rattle.std.specs.Cmp.Lexicographic.{pointwise}
 use Rattle.std.specs.List.{list_all}
@@ -15,13 +17,13 @@ use Rattle.irc_crossing.specs.declared.change.Change.{Change}
 use Rattle.irc_crossing.specs.declared.change.Change.TheVariants.{Come, Rename}
 use Rattle.irc_crossing.specs.declared.hearing.Given.{Given}
 use Rattle.irc_crossing.specs.declared.hearing.Given.TheVariants.{AsItCame, Changed}
-use Rattle.irc_crossing.specs.Hearing.{doer_now, given_by, given_from, given_if, given_with}
+use Rattle.irc_crossing.specs.declared.log.Entry.{Entry}
+use Rattle.irc_crossing.specs.Hearing.{doer_now, given, given_by, given_from, given_if, given_with}
 use Rattle.irc_crossing.specs.Hearing.{is_same_prefix, letter_word, log_after_read, message_given}
 use Rattle.irc_crossing.specs.Hearing.{mode_words_now, modes_left, modes_now, nick_given, read_given}
 use Rattle.irc_crossing.specs.Hearing.{with_letter, with_worded, word_now, words_left, words_now_at}
 use Rattle.irc_crossing.specs.Hearing.{written_with}
-use Rattle.irc_crossing.specs.Laws.{NothingIsChanged, NothingIsLogged, has_signs_alone}
-use Rattle.irc_crossing.specs.Laws.{is_mode_of_signs}
+use Rattle.irc_crossing.specs.Laws.{NothingIsChanged, NothingIsLogged}
 use Rattle.irc_crossing.specs.Lines.{change_of, has_word, is_for_somebody, is_kick_line}
 use Rattle.irc_crossing.specs.Lines.{is_mode_line, is_nick_line, is_part_line, is_sign, names_member}
 use Rattle.irc_crossing.specs.Lines.{nick_change, plus_behind, word_at}
@@ -82,32 +84,31 @@ same_given message =
 
 -- ---- the words of a line
 
-mode_stays : (params : List (List ℕ)) → has_signs_alone params ≡ false
-    → mode_words_now [] params ≡ Some params
-mode_stays [] some = refl
-mode_stays (channel ∷ []) some = refl
-mode_stays (channel ∷ letters ∷ words) some = by (is_for_channel channel) some
+mode_stays : (params : List (List ℕ)) → mode_words_now [] params ≡ Some params
+mode_stays [] = refl
+mode_stays (channel ∷ []) = refl
+mode_stays (channel ∷ letters ∷ words) =
+    either (is_for_channel channel)
+    (if list_all is_sign letters then Some (channel ∷ letters ∷ words)
+    else modes_left channel (modes_now (means_in [] channel) true letters words))
+    (words_now_at 0 (means []) (channel ∷ letters ∷ words))
+    (Some (channel ∷ letters ∷ words)) (by (list_all is_sign letters) refl)
+    (place_stays (means []) (λ word. refl) 0 (channel ∷ letters ∷ words))
   where
-    by : (b : Bool) → (b && list_all is_sign letters) ≡ false
-        → (if b then modes_left channel (modes_now (means_in [] channel) true letters words)
-        else words_now_at 0 (means []) (channel ∷ letters ∷ words))
+    by : (b : Bool) → list_all is_sign letters ≡ b
+        → (if b then Some (channel ∷ letters ∷ words)
+        else modes_left channel (modes_now (means_in [] channel) true letters words))
         ≡ Some (channel ∷ letters ∷ words)
-    by true signs =
+    by true signs = refl
+    by false signs =
         ap (modes_left channel) (modes_stay (means_in [] channel) (λ word. refl) true letters words)
         ∙ ap (λ b. if b then None else Some (channel ∷ letters ∷ words)) signs
-    by false signs = place_stays (means []) (λ word. refl) 0 (channel ∷ letters ∷ words)
 
-module _ (message : Parsed)
-    (some : (is_mode_line message && has_signs_alone message.params) ≡ false) where
+module _ (is_held : Bool) (message : Parsed) where
   mode_words_stay : (if is_mode_line message then mode_words_now [] message.params
       else Some message.params) ≡ Some message.params
-  mode_words_stay = by (is_mode_line message) some
-    where
-      by : (b : Bool) → (b && has_signs_alone message.params) ≡ false
-          → (if b then mode_words_now [] message.params else Some message.params)
-          ≡ Some message.params
-      by true some = mode_stays message.params some
-      by false some = refl
+  mode_words_stay = either (is_mode_line message) (mode_words_now [] message.params)
+      (Some message.params) (Some message.params) (mode_stays message.params) refl
 
   words_stay : words_left [] message ≡ Some message.params
   words_stay =
@@ -144,7 +145,8 @@ module _ (message : Parsed)
   -- ---- a NICK
 
   abbrev nick_so : Option Change → Given
-  nick_so change = option_map_or (λ (change : Change). nick_given message (Some change)) change
+  nick_so change = option_map_or (λ (change : Change). nick_given is_held message (Some change))
+      change
       AsItCame
 
   nick_stays : (prefix : Option (List ℕ)) → message.prefix ≡ prefix
@@ -161,7 +163,7 @@ module _ (message : Parsed)
       by true = ap (λ it. given_with message it message.params) (sym is) ∙ same_given message
       by false = refl
 
-  message_stays : message_given [] message ≡ AsItCame
+  message_stays : message_given [] is_held message ≡ AsItCame
   message_stays = by (is_nick_line message) refl
     where
       by : (b : Bool) → is_nick_line message ≡ b
@@ -172,13 +174,13 @@ module _ (message : Parsed)
           ∙ nick_stays message.prefix refl
       by false is = by_stays message.prefix refl
 
-read_stays : (read : Result Parsed LineFault) → is_mode_of_signs read ≡ false
-    → read_given [] read ≡ AsItCame
-read_stays (Ok message) some = message_stays message some
-read_stays (Err fault) some = refl
+read_stays : (is_held : Bool) (read : Result Parsed LineFault)
+    → read_given [] is_held read ≡ AsItCame
+read_stays is_held (Ok message) = message_stays is_held message
+read_stays is_held (Err fault) = refl
 
 pub nothing_is_changed : NothingIsChanged
-nothing_is_changed line some = read_stays (read_of line) some
+nothing_is_changed is_held line = read_stays is_held (read_of line)
 
 read_logged : (read : Result Parsed LineFault) → log_after_read [] read ≡ []
 read_logged (Ok message) = refl
@@ -186,3 +188,10 @@ read_logged (Err fault) = refl
 
 pub nothing_is_logged : NothingIsLogged
 nothing_is_logged line = read_logged (read_of line)
+
+-- the same of a log in which nothing is
+pub given_of_none : (log : List Entry) (is_held : Bool) (line : List ℕ)
+    → nat_eq (length log) 0 ≡ true → AsItCame ≡ given log is_held line
+given_of_none [] is_held line none = sym (nothing_is_changed is_held line)
+given_of_none (entry ∷ log) is_held line none =
+    absurd (omega (arith, eqb-true (suc (length log)) 0 none))

@@ -80,7 +80,7 @@ modes_now now plus (letter ∷ letters) (word ∷ words) =
     else with_letter letter
     (modes_now now (plus_behind plus letter) letters (word ∷ words))
 
--- the parameters of a MODE of a channel; none where no letter is left
+-- the parameters of a MODE of a channel, of which no letter may be left
 abbrev pub modes_left : List ℕ → ModesLeft → Option (List (List ℕ))
 modes_left channel modes =
     if list_all is_sign modes.letters then None
@@ -89,7 +89,8 @@ modes_left channel modes =
 abbrev pub mode_words_now : List Entry → List (List ℕ) → Option (List (List ℕ))
 mode_words_now log (channel ∷ letters ∷ words) =
     if is_for_channel channel
-    then modes_left channel (modes_now (means_as log (Some channel)) true letters words)
+    then (if list_all is_sign letters then Some (channel ∷ letters ∷ words)
+    else modes_left channel (modes_now (means_as log (Some channel)) true letters words))
     else words_now_at 0 (means_as log None) (channel ∷ letters ∷ words)
 mode_words_now log params = Some params
 
@@ -152,39 +153,43 @@ given_by log message (Some doer) = given_from log message (doer_now log message 
 -- ---- a NICK
 
 -- Two have one nickname: who has it here, and who comes by this line. Where who has taken it here
--- has it still, the server kills both upon the line; else it is told whom to kill.
-abbrev pub met_given : Parsed → (nick : List ℕ) → (other : Option (List ℕ)) → Given
-met_given message nick None =
-    if is_none message.prefix && same nick (word_at 0 message) then AsItCame else Kills nick None
-met_given message nick (Some other) =
-    if same nick (word_at 0 message) then given_with message (Some other) message.params
-    else Kills nick (Some other)
+-- has it still, the server kills both upon the line; else it is told whom to kill. A log does not
+-- tell who was lost with a server: `is_held` is whether somebody who is not behind the link has the
+-- nickname that the line brings.
+abbrev pub met_given : Bool → Parsed → (nick : List ℕ) → (other : Option (List ℕ)) → Given
+met_given is_held message nick None =
+    if is_held && (is_none message.prefix && same nick (word_at 0 message)) then AsItCame
+    else Kills nick None
+met_given is_held message nick (Some other) =
+    if is_held && same nick (word_at 0 message)
+    then given_with message (Some other) message.params else Kills nick (Some other)
 
 -- by what is left of the change that it tells of
-abbrev pub nick_given : Parsed → Option Change → Given
-nick_given message None = LeftOut
-nick_given message (Some (Come nick)) = AsItCame
-nick_given message (Some (Rename nick new)) = given_with message (Some nick) message.params
-nick_given message (Some (Go nick other)) = met_given message nick other
-nick_given message (Some (Out nick channel)) = LeftOut
+abbrev pub nick_given : Bool → Parsed → Option Change → Given
+nick_given is_held message None = LeftOut
+nick_given is_held message (Some (Come nick)) = AsItCame
+nick_given is_held message (Some (Rename nick new)) =
+    given_with message (Some nick) message.params
+nick_given is_held message (Some (Go nick other)) = met_given is_held message nick other
+nick_given is_held message (Some (Out nick channel)) = LeftOut
 
 -- ---- any line
 
 -- a NICK of which a word is no nickname is for the server to refuse
-abbrev pub message_given : List Entry → Parsed → Given
-message_given log message =
+abbrev pub message_given : List Entry → Bool → Parsed → Given
+message_given log is_held message =
     if is_nick_line message
-    then option_map_or (λ change. nick_given message (through (Some change) log))
+    then option_map_or (λ change. nick_given is_held message (through (Some change) log))
     (change_of message) AsItCame
     else given_by log message message.prefix
 
-abbrev pub read_given : List Entry → Result Parsed LineFault → Given
-read_given log (Ok message) = message_given log message
-read_given log (Err fault) = AsItCame
+abbrev pub read_given : List Entry → Bool → Result Parsed LineFault → Given
+read_given log is_held (Ok message) = message_given log is_held message
+read_given log is_held (Err fault) = AsItCame
 
 -- what the server is given for a line
-abbrev pub given : List Entry → List ℕ → Given
-given log line = read_given log (read_of line)
+abbrev pub given : List Entry → Bool → List ℕ → Given
+given log is_held line = read_given log is_held (read_of line)
 
 -- ---- the log behind it
 

@@ -1,16 +1,14 @@
 -- What holds of lines that cross, whatever is in the log and whatever comes.
 use Rattle.std.specs.Prelude.{◌≡◌, ℕ, Bool, true, false, ◌&&◌, Option, Some, None, Result, Ok, Err}
 use Rattle.std.specs.Prelude.{List, [], ◌∷◌}
-use Rattle.std.specs.List.{list_all}
 use Rattle.irc_line.specs.Messages.{Parsed}
 use Rattle.irc_line.specs.Reading.{read_of}
 use Rattle.irc_line.specs.declared.reading.LineFault.{LineFault}
 use Rattle.irc_names.specs.Fold.{same}
 use Rattle.irc_names.specs.Names.{is_nick}
-use Rattle.irc_link_words.specs.Words.{is_for_channel}
 use Rattle.irc_crossing.specs.Changes.{crossed, taken_by}
 use Rattle.irc_crossing.specs.Hearing.{given, log_after}
-use Rattle.irc_crossing.specs.Lines.{is_mode_line, is_nick_line, is_sign}
+use Rattle.irc_crossing.specs.Lines.{is_nick_line}
 use Rattle.irc_crossing.specs.Logs.{means}
 use Rattle.irc_crossing.specs.declared.change.Change.{Change}
 use Rattle.irc_crossing.specs.declared.change.Change.TheVariants.{Come, Rename, Go, Out}
@@ -19,19 +17,9 @@ use Rattle.irc_crossing.specs.declared.log.Entry.{Entry}
 
 -- ---- nothing has crossed
 
--- A MODE of a channel that has no letters but signs: it is left out, whatever has crossed.
-abbrev pub has_signs_alone : List (List ℕ) → Bool
-has_signs_alone (channel ∷ letters ∷ words) = is_for_channel channel && list_all is_sign letters
-has_signs_alone params = false
-
-abbrev pub is_mode_of_signs : Result Parsed LineFault → Bool
-is_mode_of_signs (Ok message) = is_mode_line message && has_signs_alone message.params
-is_mode_of_signs (Err fault) = false
-
--- Each other line is given as it came,
+-- Each line is given as it came,
 abbrev pub NothingIsChanged : Type 0
-NothingIsChanged =
-    (line : List ℕ) → is_mode_of_signs (read_of line) ≡ false → given [] line ≡ AsItCame
+NothingIsChanged = (is_held : Bool) (line : List ℕ) → given [] is_held line ≡ AsItCame
 
 -- and the log stays empty.
 abbrev pub NothingIsLogged : Type 0
@@ -64,8 +52,8 @@ abbrev pub WhoIsGoneIsLeftOut : Type 0
 WhoIsGoneIsLeftOut =
     (piece : ℕ) (nick : List ℕ) (log : List Entry) (line : List ℕ) (message : Parsed)
     → read_of line ≡ Ok message → message.prefix ≡ Some nick → is_nick nick ≡ true
-    → is_nick_line message ≡ false
-    → given (put_out_in piece (Go nick None) ∷ log) line ≡ LeftOut
+    → is_nick_line message ≡ false → (is_held : Bool)
+    → given (put_out_in piece (Go nick None) ∷ log) is_held line ≡ LeftOut
 
 -- ---- two who take one nickname
 

@@ -22,7 +22,7 @@ ghost use Rattle.irc_crossing.specs.declared.hearing.Given.TheVariants.{AsItCame
 use crate::change::Change;
 use crate::lines::{change_of, is_for_somebody, word_at};
 use crate::log::Log;
-use crate::mode_words::ModeWords;
+use crate::mode_words::{ModeWords, are_signs};
 use arrayvec::ArrayVec;
 use irc_line::limits::MAX_PARAMETERS;
 use irc_line::{Message, Parts, Prefix, Text, parse, write_message};
@@ -47,25 +47,29 @@ pub enum Given {
 
 impl Log {
     /// Hears a line that comes from the other end, without its CR LF: what the server is given for
-    /// it.
-    pub fn hear(&mut self, line: &[u8]) -> Given
-        ensures given { result ≡ given self.old line.now }
+    /// it. `is_held` is whether somebody who is not behind the link has the nickname that the line
+    /// brings, if it is a NICK.
+    pub fn hear(&mut self, line: &[u8], is_held: bool) -> Given
+        ensures given { result ≡ given self.old is_held line.now }
         ensures behind { self.new ≡ log_after self.old line.now }
     {
+        if self.is_empty() {
+            return Given::AsItCame;
+        }
         match parse(line) {
-            Ok(message) => self.hear_message(&message),
+            Ok(message) => self.hear_message(&message, is_held),
             Err(_) => Given::AsItCame,
         }
     }
 
-    fn hear_message(&mut self, message: &Message<'_>) -> Given
-        ensures given { result ≡ message_given self.old (parsed message.now) }
+    fn hear_message(&mut self, message: &Message<'_>, is_held: bool) -> Given
+        ensures given { result ≡ message_given self.old is_held (parsed message.now) }
         ensures behind { self.new
             ≡ log_behind (change_heard self.old (parsed message.now)) self.old }
     {
         let change = self.change_heard(message);
         if is_command(b"NICK", message.command) {
-            return self.hear_nick(message, change);
+            return self.hear_nick(message, change, is_held);
         }
         let given = self.given_by(message);
         let _became = self.pass(change);
@@ -73,9 +77,14 @@ impl Log {
     }
 
     /// Hears that a user comes, or takes another nickname.
-    fn hear_nick(&mut self, message: &Message<'_>, change: Option<Change>) -> Given
+    fn hear_nick(
+        &mut self,
+        message: &Message<'_>,
+        change: Option<Change>,
+        is_held: bool,
+    ) -> Given
         ensures given { result ≡ option_map_or
-            (λ change. nick_given (parsed message.now) (through (Some change) self.old))
+            (λ change. nick_given is_held (parsed message.now) (through (Some change) self.old))
             change AsItCame }
         ensures behind { self.new ≡ log_behind change self.old }
     {
@@ -83,7 +92,7 @@ impl Log {
             return Given::AsItCame;
         };
         let became = self.pass(Some(change));
-        nick_given(message, became)
+        nick_given(message, became, is_held)
     }
 
     /// What a line changes, of what is done of it here.
@@ -169,6 +178,9 @@ impl Log {
         if !is_for_channel(channel) {
             return self.given_at(message, prefix, 0, None);
         }
+        if are_signs(letters) {
+            return given_with(message, prefix, message.params.as_slice());
+        }
         let modes = self.modes_now(channel, letters, words);
         given_with_modes(message, prefix, &modes)
     }
@@ -223,24 +235,24 @@ impl Log {
 }
 
 /// What a NICK is given as, by what is left of the change that it tells of.
-fn nick_given(message: &Message<'_>, became: Option<Change>) -> Given
-    ensures { result ≡ nick_given (parsed message.now) became }
+fn nick_given(message: &Message<'_>, became: Option<Change>, is_held: bool) -> Given
+    ensures { result ≡ nick_given is_held (parsed message.now) became }
 {
     match became {
         Some(Change::Come(_)) => Given::AsItCame,
         Some(Change::Rename { nick, .. }) => {
             given_with(message, Some(nick.as_bytes()), message.params.as_slice())
         }
-        Some(Change::Go { nick, other }) => met_given(message, nick, other),
+        Some(Change::Go { nick, other }) => met_given(message, nick, other, is_held),
         Some(Change::Out { .. }) | None => Given::LeftOut,
     }
 }
 
 /// What a NICK is given as, where two have one nickname.
-fn met_given(message: &Message<'_>, nick: Nick, other: Option<Nick>) -> Given
-    ensures { result ≡ met_given (parsed message.now) nick other }
+fn met_given(message: &Message<'_>, nick: Nick, other: Option<Nick>, is_held: bool) -> Given
+    ensures { result ≡ met_given is_held (parsed message.now) nick other }
 {
-    let is_still = same(nick.as_bytes(), word_at(message, 0));
+    let is_still = is_held && same(nick.as_bytes(), word_at(message, 0));
     match other {
         Some(other) if is_still => {
             given_with(message, Some(other.as_bytes()), message.params.as_slice())

@@ -10,8 +10,7 @@ ghost use Rattle.irc_crossing.specs.Laws.{ComersAreOthers, NamesAreFollowed, Not
 ghost use Rattle.irc_crossing.specs.Laws.{NothingIsLogged, TakersAreOthers, TwoToOneNameGo};
 ghost use Rattle.irc_crossing.specs.Laws.{WhoIsGoneIsLeftOut};
 
-/// Where nothing has crossed, a line is given as it came, and the log stays empty; but for a MODE
-/// that has no letter.
+/// Where nothing has crossed, a line is given as it came, and the log stays empty.
 pub fn nothing_crossed()
     ensures changed { NothingIsChanged }
     ensures logged { NothingIsLogged }

@@ -1,5 +1,5 @@
 //! What an end of a link has put out, and the other end had not read when it wrote last.
-ghost use Rattle.std.specs.Prelude.{◌≡◌, [], drop, length, OnOk, OnErr};
+ghost use Rattle.std.specs.Prelude.{◌≡◌, [], drop, length, nat_eq, OnOk, OnErr};
 ghost use Rattle.std.specs.Option.{option_copied};
 ghost use Rattle.irc_crossing.specs.Logs.{crossed_if, log_behind, means, means_in, member_behind};
 ghost use Rattle.irc_crossing.specs.Logs.{is_first_read, nick_behind, put_out, through, unread};
@@ -49,6 +49,13 @@ impl Log {
         ensures { result ≡ length self.now }
     {
         self.entries.len()
+    }
+
+    /// Whether nothing is in it.
+    pub fn is_empty(&self) -> bool
+        ensures { result ≡ nat_eq (length self.now) 0 }
+    {
+        self.len() == 0
     }
 
     /// A piece is put out, which changes this, if anything.

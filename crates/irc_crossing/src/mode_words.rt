@@ -1,5 +1,6 @@
 //! The letters of a MODE, and the words behind them.
 ghost use Rattle.std.specs.Prelude.{◌≡◌, ◌≤◌, ◌<◌, ◌+◌, ℕ, List, Some, length, true, ◌∷◌, ◌++◌};
+ghost use Rattle.std.specs.List.{list_all};
 ghost use Rattle.std.specs.Option.{option_copied};
 ghost use Rattle.irc_line.specs.Bytes.{cut};
 ghost use Rattle.irc_line.specs.Limits.{max_parameters};
@@ -192,4 +193,13 @@ fn is_sign(letter: u8) -> bool
     ensures { result ≡ is_sign letter }
 {
     letter == b'+' || letter == b'-'
+}
+
+/// Whether letters are signs alone.
+pub(crate) fn are_signs(letters: &[u8]) -> bool
+    ensures { result ≡ list_all is_sign letters.now }
+{
+    letters
+        .iter()
+        .all(|letter| *letter == b'+' || *letter == b'-')
 }
