@@ -12,4 +12,5 @@ mod mode_words;
 
 pub use change::{Change, Standing};
 pub use hearing::Given;
+pub use lines::change_told;
 pub use log::{Entry, Log};

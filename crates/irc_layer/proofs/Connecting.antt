@@ -1,7 +1,7 @@
 -- Who is connected to the server of a layer.
 use Rattle.std.proofs.Common.{◌≡◌, ℕ, Bool, true, false, not, ◌&&◌, ◌||◌, nat_eq, Option, Some}
 use Rattle.std.proofs.Common.{List, [], ◌∷◌, ◌++◌, refl, sym, ◌∙◌, ap, append_assoc, append-nil}
-use Rattle.std.proofs.Common.{subst}
+use Rattle.std.proofs.Common.{subst, OnOk, Result, Ok, Err}
 use Rattle.std.specs.List.{list_any}
 use Rattle.std.proofs.lemmas.List.Folds.{list_any-append}
 use Rattle.arrayvec.specs.ArrayVec.{ArrayVec}
@@ -17,9 +17,10 @@ use Rattle.irc_server.specs.ReadEvents.{read_event_of}
 use Rattle.irc_engine.specs.Machines.{AreConnectedBy, AreStillConnected, IsConnectedBy}
 use Rattle.irc_engine.specs.Machines.{IsStillConnected}
 use Rattle.irc_engine.specs.Lemmas.Layers.{connected_shut}
+use Rattle.irc_layer.specs.declared.end.End.{End}
 use Rattle.irc_layer.specs.Ends.{Ends}
-use Rattle.irc_layer.specs.Putting.{all_put}
-use Rattle.irc_layer.proofs.Kept.{all_kept}
+use Rattle.irc_layer.specs.Putting.{all_put, count_at}
+use Rattle.irc_layer.proofs.Kept.{all_kept, count_at_fails}
 
 -- ---- booleans
 
@@ -100,6 +101,15 @@ connected_on server between after before mid end one other = record {
         still_twice first.0 then.0 behind one.outs other.outs first.2 then.2,
       );
 }
+
+-- the same, where the second may fail
+pub connected_if_ok : {E : Type 0} (server between after : Option View) (before mid end : List Sent)
+    (r : Result (Unit {0}) E) → IsStillConnected server before between mid
+    → OnOk r (IsStillConnected between mid after end)
+    → OnOk r (IsStillConnected server before after end)
+connected_if_ok server between after before mid end (Ok _) one other =
+    connected_on server between after before mid end one other
+connected_if_ok server between after before mid end (Err e) one other = tt
 
 -- what closes nobody is put out
 quiet_more : (server : View) (more : List Sent)
@@ -208,3 +218,15 @@ connected_put event arrival ends server after outs before end by is = record {
         (subst (λ x. AreConnectedBy was.0 (read_event_of event) x behind) (sym by.after_is) was.2),
       );
 }
+
+-- a count alone is put out behind that
+pub quiet_if_ok : {E : Type 0} (link : ℕ) (end : Option End) (server after : Option View)
+    (before mid last : List Sent) (r : Result (Unit {0}) E)
+    → IsStillConnected server before after mid → OnOk r (last ≡ mid ++ count_at link end)
+    → OnOk r (IsStillConnected server before after last)
+quiet_if_ok link end server after before mid last (Ok _) one is =
+    connected_on server after after before mid last one
+    (nobody_goes_by after mid (count_at link end) last
+    (λ q. count_at_fails (ends_client q) (λ l x. refl) link end)
+    (λ q. count_at_fails (ends_link q) (λ l x. refl) link end) is)
+quiet_if_ok link end server after before mid last (Err e) one is = tt

@@ -1,4 +1,6 @@
 pub mod Connecting
 pub mod Following
+pub mod Hearing
 pub mod Kept
 pub mod Numbers
+pub mod Passing

@@ -25,14 +25,14 @@ use Rattle.irc_server.specs.declared.event.Event.{Event}
 use Rattle.irc_server.specs.declared.event.Event.TheVariants.{Connect, Line, Gone, LinkUp, LinkLine}
 use Rattle.irc_server.specs.declared.event.Event.TheVariants.{LinkDown}
 use Rattle.irc_server.specs.declared.event.ServerFault.{ServerFault}
-use Rattle.irc_server.specs.declared.event.ServerFault.TheVariants.{Memory}
 use Rattle.irc_server.specs.ReadEvents.{IsHandled}
-use Rattle.irc_engine.specs.Machines.{is_out_of_memory}
+use Rattle.irc_engine.specs.Machines.{is_out_of_memory, IsConnectedBy}
 use Rattle.irc_engine.specs.Noting.{far_of}
 use Rattle.irc_layer.specs.declared.end.End.{End}
 use Rattle.irc_layer.specs.declared.layer.Layer.{Layer}
 use Rattle.irc_layer.specs.Ends.{change_end, end_at, end_hearing, ends_followed, heard_if, met_if}
 use Rattle.irc_layer.specs.Ends.{with_log_after, Ends}
+use Rattle.irc_layer.specs.Holding.{is_held}
 use Rattle.irc_layer.specs.Putting.{all_put, body, count_at, ends_behind_all, with_count_out}
 
 -- the server, the ends of its links, and the servers whose calls are without the word
@@ -77,7 +77,8 @@ pub record Passes (arrival : Option ℕ) (event : Event) (old new : State) : Typ
 
 -- the server refuses it, and nothing has changed
 pub record IsRefusedBy (event : Event) (old new : State) (fault : ServerFault) : Type 0 where
-  pub is_refused : IsHandled old.layer.server event [] (Err fault) new.layer.server []
+  pub is_refused : IsHandled old.layer.server event [] (Err fault) old.layer.server []
+  pub server_stays : new.layer.server ≡ old.layer.server
   pub ends_stay : new.layer.ends ≡ old.layer.ends
   pub plain_is : new.layer.plain ≡ old.layer.plain
   pub outs_stay : new.outs ≡ old.outs
@@ -87,6 +88,13 @@ abbrev pub PassesOrNot : Bool → (arrival : Option ℕ) (event : Event) (old ne
 PassesOrNot true arrival event old new = Passes arrival event old new
 PassesOrNot false arrival event old new = (fault : ServerFault) × (is_out_of_memory fault ≡ false)
     × IsRefusedBy event old new fault
+
+-- who is connected by it, or that nothing has changed
+abbrev pub IsConnectedIf : Bool → Event → State → State → Type 0
+IsConnectedIf true event old new =
+    IsConnectedBy old.layer.server event old.outs new.layer.server new.outs
+IsConnectedIf false event old new =
+    (new.layer.server ≡ old.layer.server) × (new.outs ≡ old.outs)
 
 -- ---- a line of a link
 
@@ -135,7 +143,7 @@ GivesAs (Kills nick other) link line old new = GivesKills link nick other old ne
 abbrev pub HearsFrom : Option End → ℕ → List ℕ → State → State → Type 0
 HearsFrom None link line old new = new ≡ old
 HearsFrom (Some end) link line old new =
-    GivesAs (given end.log line) link line
+    GivesAs (given end.log (is_held old.layer.server link line) line) link line
     (with_ends (change_end link (with_log_after line) old.layer.ends) old) new
 
 abbrev pub HearsOne : ℕ → List ℕ → State → State → Type 0
@@ -199,8 +207,10 @@ pub data Handles (old : State) (event : Event) (new : State) : Result (Unit {0})
       → is_some (old.layer.ends link) ≡ true → HearsIf (old.layer.ends link) link line old new
       → Handles old event new (Ok tt)
   refuses : (fault : ServerFault) → is_heard event old.layer.ends ≡ false
-      → IsRefusedBy event old new fault → Handles old event new (Err fault)
-  wants_memory : Handles old event new (Err Memory)
+      → is_out_of_memory fault ≡ false → IsRefusedBy event old new fault
+      → Handles old event new (Err fault)
+  wants_memory : (fault : ServerFault) → is_out_of_memory fault ≡ true
+      → Handles old event new (Err fault)
 
 -- what comes of an event that a layer is asked for
 abbrev pub IsLayered : Layer → Event → List Sent → Result (Unit {0}) ServerFault → Layer

@@ -1,5 +1,5 @@
 //! A layer around a server.
-ghost use Rattle.std.specs.Prelude.{◌≡◌, ◌++◌, is_some, true, false, IfErr, IfOk, OnOk};
+ghost use Rattle.std.specs.Prelude.{◌≡◌, ◌++◌, None, is_some, true, false, IfErr, IfNone, IfOk, OnOk};
 ghost use Rattle.std.specs.Option.{option_copied, option_map};
 ghost use Rattle.irc_crossing.specs.Hearing.{given};
 ghost use Rattle.irc_engine.specs.Machines.{is_out_of_memory, IsConnectedBy, IsRefusal};
@@ -10,11 +10,12 @@ ghost use Rattle.irc_layer.specs.Ends.{change_end, end_at, end_hearing, ends_fol
 ghost use Rattle.irc_layer.specs.Ends.{met_if, with_log_after};
 ghost use Rattle.irc_layer.specs.Layers.{state_of, Gives, GivesKill, GivesKills, HearsAll, HearsIf};
 ghost use Rattle.irc_layer.specs.Layers.{HearsOne, IsAround, IsRefusedBy, Passes, PassesOrNot};
-ghost use Rattle.irc_layer.specs.Layers.{Shuts};
+ghost use Rattle.irc_layer.specs.Layers.{is_heard, Handles, IsConnectedIf, Shuts};
 ghost use Rattle.irc_layer.specs.Putting.{body, count_at, with_count_out};
 ghost use Rattle.irc_layer.specs.declared.end.End.{End as LinksEnd};
 
 use crate::end::{End, body};
+use crate::holding::is_held;
 use crate::putting::{Ends, begin, end, put_all};
 use irc_batch::{Batch, CloseReason};
 use irc_burst_lines::kill_text;
@@ -91,14 +92,30 @@ impl Layer {
     ) -> Result<bool, AllocError>
         ensures passes { IfOk result (λ is_taken. PassesOrNot is_taken arrival event.now
             (state_of self.old out.old) (state_of self.new out.new)) }
-        ensures connected { IfOk result (λ is_taken. is_taken ≡ true
-            → IsConnectedBy self.old.server event.now out.old.outs self.new.server out.new.outs) }
+        ensures connected { IfOk result (λ is_taken. IsConnectedIf is_taken event.now
+            (state_of self.old out.old) (state_of self.new out.new)) }
     {
         match self.pass(arrival, event, out) {
             Ok(()) => Ok(true),
             Err(ServerFault::Memory | ServerFault::Failed) => Err(AllocError),
             Err(_) => Ok(false),
         }
+    }
+
+    /// A line of a link that has an end has come.
+    fn hear_event(&mut self, event: &Event, out: &mut Batch) -> Result<(), ServerFault>
+        requires heard { is_heard event.now (end_at self.old.ends) ≡ true }
+        ensures handled { Handles (state_of self.old out.old) event.now
+            (state_of self.new out.new) result }
+        ensures connected { OnOk result (IsConnectedBy self.old.server event.now out.old.outs
+            self.new.server out.new.outs) }
+        ensures refused { IfErr result (IsRefusal self.old.server event.now) }
+    {
+        let Event::LinkLine(link, line) = event else {
+            unreachable!();
+        };
+        self.hear(*link, line, out)?;
+        Ok(())
     }
 
     /// A line of a link has come.
@@ -108,7 +125,7 @@ impl Layer {
         ensures connected { OnOk result (IsStillConnected self.old.server out.old.outs
             self.new.server out.new.outs) }
     {
-        match hear_at(&mut self.ends, link, line)? {
+        match hear_at(&mut self.ends, link, copied(line.as_slice()))? {
             Heard::Nothing => Ok(()),
             Heard::Fault(reason) => self.shut(link, reason, out),
             Heard::Piece(piece) => {
@@ -157,11 +174,13 @@ impl Layer {
         ensures connected { OnOk result (IsStillConnected self.old.server out.old.outs
             self.new.server out.new.outs) }
     {
-        match give_at(&mut self.ends, link, &line) {
+        let is_held = is_held(&self.server, link, line.as_slice());
+        match give_at(&mut self.ends, link, &line, is_held) {
             Some(Given::AsItCame) => self.give(link, line, out),
             Some(Given::Changed(text)) => self.give(link, line_of(&text), out),
             Some(Given::Kills(nick, other)) => self.give_kills(link, &nick, other.as_ref(), out),
-            Some(Given::LeftOut) | None => Ok(()),
+            Some(Given::LeftOut) => Ok(()),
+            None => Ok(()),
         }
     }
 
@@ -233,6 +252,20 @@ impl Layer {
     }
 }
 
+/// Whether an event is a line of a link that has an end.
+fn is_heard(ends: &Ends, event: &Event) -> bool
+    ensures { result ≡ is_heard event.now (end_at ends.now) }
+{
+    match event {
+        Event::LinkLine(link, _) => ends.contains_key(link),
+        Event::Connect(_, _)
+        | Event::Line(_, _)
+        | Event::Gone(_)
+        | Event::LinkUp(_, _)
+        | Event::LinkDown(_) => false,
+    }
+}
+
 /// A link that begins has an end, and one that is lost has none.
 fn follow(
     ends: &mut Ends,
@@ -254,27 +287,30 @@ fn follow(
 }
 
 /// The end of a link takes a line, if there is one.
-fn hear_at(ends: &mut Ends, link: u64, line: &Line) -> Result<Heard, AllocError>
+fn hear_at(ends: &mut Ends, link: u64, line: Line) -> Result<Heard, AllocError>
     ensures heard { IfOk result
-        (λ heard. heard ≡ heard_if line.now.items (end_at ends.old link)) }
+        (λ heard. heard ≡ heard_if line.items (end_at ends.old link)) }
     ensures ends { OnOk result
-        (end_at ends.new ≡ change_end link (end_hearing line.now.items) (end_at ends.old)) }
+        (end_at ends.new ≡ change_end link (end_hearing line.items) (end_at ends.old)) }
 {
     match ends.get_mut(&link) {
-        Some(end) => end.hear(copied(line.as_slice())),
+        Some(end) => end.hear(line),
         None => Ok(Heard::Nothing),
     }
 }
 
-/// What the server is given for a line, if the link has an end.
-fn give_at(ends: &mut Ends, link: u64, line: &Line) -> Option<Given>
-    ensures given { result
-        ≡ option_map (λ (end : LinksEnd). given end.log line.now.items) (end_at ends.old link) }
+/// What the server is given for a line, if the link has an end; `is_held` is whether somebody who is
+/// not behind the link has the nickname that the line brings.
+fn give_at(ends: &mut Ends, link: u64, line: &Line, is_held: bool) -> Option<Given>
+    ensures given { result ≡ option_map
+        (λ (end : LinksEnd). given end.log is_held line.now.items) (end_at ends.old link) }
     ensures ends { end_at ends.new
         ≡ change_end link (with_log_after line.now.items) (end_at ends.old) }
+    ensures nowhere { IfNone result (end_at ends.old link ≡ None) }
+    ensures stays { IfNone result (end_at ends.new ≡ end_at ends.old) }
 {
     match ends.get_mut(&link) {
-        Some(end) => Some(end.give(line.as_slice())),
+        Some(end) => Some(end.give(line.as_slice(), is_held)),
         None => None,
     }
 }
@@ -319,13 +355,11 @@ impl Machine for Layer {
     ghost dues = { never_due };
 
     fn handle(&mut self, event: &Event, out: &mut Batch) -> Result<(), ServerFault> {
-        if let Event::LinkLine(link, line) = event
-            && self.ends.contains_key(link)
-        {
-            self.hear(*link, line, out)?;
-            return Ok(());
+        if is_heard(&self.ends, event) {
+            self.hear_event(event, out)
+        } else {
+            self.pass(None, event, out)
         }
-        self.pass(None, event, out)
     }
 
     fn due(&mut self, _moment: Moment, _out: &mut Batch) -> Result<(), ServerFault> {

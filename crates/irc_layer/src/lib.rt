@@ -4,6 +4,7 @@
 #![tactic(auto)]
 
 mod end;
+mod holding;
 mod layer;
 mod putting;
 
