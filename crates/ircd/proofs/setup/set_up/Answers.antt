@@ -1,8 +1,8 @@
-use Rattle.std.proofs.Common.{◌∙◌, Ok, Err, refl, subst}
+use Rattle.std.proofs.Common.{◌≡◌, Ok, Err, refl, subst}
 use Rattle.std.specs.Net.Grammar.{IsSocketText}
-use Rattle.ircd.specs.Serving.{AreCalled}
-use Rattle.ircd.specs.Loops.SettingUp.{FindsCallees, FindsName}
-use Rattle.ircd.proofs.SettingUp.{calls_refused, found_in, links_refused, own_refused}
+use Rattle.ircd.specs.Serving.{plain_names, AreCalled}
+use Rattle.ircd.specs.Loops.SettingUp.{FindsCallees}
+use Rattle.ircd.proofs.SettingUp.{calls_refused, found_in, links_refused}
 use Rattle.ircd.proofs.SettingUp.{server_refused}
 use Rattle.ircd.proofs.setup.set_up.Goals as goal
 
@@ -29,21 +29,14 @@ returns-in_err-new c =
     c.in_ok-config.ensures c.in_err-new.ensures
     c.from_residual-in_err-new.ensures.1
 
-pub returns-in_err-server_name : goal.returns-in_err-server_name
-returns-in_err-server_name c =
-    own_refused c.args.settings.now c.from_residual-in_err-server_name.result
-    c.in_err-server_name.field-0.0
-    (subst (λ text. FindsName text (Err c.in_err-server_name.field-0.0)) c.as_str-2.ensures.value
-    c.in_err-server_name.ensures)
-    c.from_residual-in_err-server_name.ensures.1
-
 pub returns : goal.returns
 returns c = record {
   config = c.in_ok-config.field-0;
   configures = c.in_ok-config.ensures;
   no_fault = c.in_ok-new.ensures.0;
   server_is = c.in_ok-new.ensures.1;
-  own = c.in_ok-server_name.ensures ∙ c.as_str-2.ensures.value;
+  plain = subst (λ peers. c.in_ok-plain_names.field-0.items ≡ plain_names peers)
+      c.deref-2.ensures.value c.in_ok-plain_names.ensures;
   clients = subst (λ text. IsSocketText text c.in_ok-address.field-0) c.as_str.ensures.value
       c.in_ok-address.ensures;
   links = found_in c.as_ref.result c.args.settings.now.listen_links
