@@ -1,3 +1,4 @@
+mod BothEnds
 mod Counting
 mod Examples
 mod Following

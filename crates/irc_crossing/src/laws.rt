@@ -6,7 +6,7 @@ ghost use Rattle.irc_crossing.specs.Examples.{KickIsFollowed, KickIsLeftOut, Kil
 ghost use Rattle.irc_crossing.specs.Examples.{KilledIsFollowed, LetterIsLeftOut, MetGoes};
 ghost use Rattle.irc_crossing.specs.Examples.{MetIsGiven, MetIsKilled, ModeIsLeftOut};
 ghost use Rattle.irc_crossing.specs.Examples.{NextIsSpared, PartIsLeftOut, TextIsLeftOut};
-ghost use Rattle.irc_crossing.specs.Laws.{ComersAreOthers, NamesAreFollowed, NothingIsChanged};
+ghost use Rattle.irc_crossing.specs.Laws.{BothEndsAgree, ComersAreOthers, NamesAreFollowed, NothingIsChanged};
 ghost use Rattle.irc_crossing.specs.Laws.{NothingIsLogged, TakersAreOthers, TwoToOneNameGo};
 ghost use Rattle.irc_crossing.specs.Laws.{WhoIsGoneIsLeftOut};
 
@@ -33,6 +33,12 @@ pub fn who_is_gone_is_left_out()
 /// Where two take one nickname, each at another end, both are gone behind both changes.
 pub fn two_to_one_name_go()
     ensures { TwoToOneNameGo }
+{}
+
+/// Where each end does its own change, and then what becomes of the other's, whoever was there has
+/// one nickname at both ends then, or is gone at both.
+pub fn both_ends_agree()
+    ensures { BothEndsAgree }
 {}
 
 /// Lines that cross one of this end's.
