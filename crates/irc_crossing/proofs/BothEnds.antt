@@ -152,5 +152,362 @@ none_spelled o w p v n false false false are wv vw on pn =
     search (rules, are.ow, are.pv, are.op, are.po, are.wn, are.vn, are.wp, are.pw, are.vo, are.ov,
     wv, vw, on, pn)
 
+-- ---- one who takes another nickname, and one or two who go
+
+spelled_go : (o w x n : List ℕ) (xo xn : Bool) → same o w ≡ true → same x o ≡ xo → same x n ≡ xn
+    → nick_behind_both (Rename o w) (Go x None) n ≡ nick_behind_both (Go x None) (Rename o w) n
+spelled_go o w x n true true ow xo xn = search (rules, ow, xo, xn)
+spelled_go o w x n true false ow xo xn = search (rules, ow, xo, xn)
+spelled_go o w x n false true ow xo xn = search (rules, ow, xo, xn)
+spelled_go o w x n false false ow xo xn = search (rules, ow, xo, xn)
+
+-- of somebody who goes: whether it is the one who takes another nickname, and the one at hand
+record IsGoer (o w n x : List ℕ) (first at : Bool) : Type 0 where
+  ox : same o x ≡ first
+  xo : same x o ≡ first
+  xn : same x n ≡ at
+  wx : same w x ≡ false
+  xw : same x w ≡ false
+
+record IsMover (o w n : List ℕ) (on : Bool) : Type 0 where
+  ow : same o w ≡ false
+  wn : same w n ≡ false
+  ww : same w w ≡ true
+  here : same o n ≡ on
+
+-- with one who goes
+mover_go : (o w x n : List ℕ) (on first at : Bool) → IsMover o w n on → IsGoer o w n x first at
+    → nick_behind_both (Rename o w) (Go x None) n ≡ nick_behind_both (Go x None) (Rename o w) n
+mover_go o w x n true true true m g =
+    search (rules, m.ow, m.wn, m.ww, m.here, g.ox, g.xo, g.xn, g.wx, g.xw)
+mover_go o w x n true true false m g =
+    absurd (true≢false (sym g.ox ∙ first_same o n x m.here ∙ not_turned x n g.xn))
+mover_go o w x n true false true m g =
+    absurd (true≢false (sym (turned x n g.xn) ∙ sym (first_same o n x m.here) ∙ g.ox))
+mover_go o w x n true false false m g =
+    search (rules, m.ow, m.wn, m.ww, m.here, g.ox, g.xo, g.xn, g.wx, g.xw)
+mover_go o w x n false true true m g =
+    absurd (true≢false (sym g.xn ∙ sym (first_same o x n g.ox) ∙ m.here))
+mover_go o w x n false true false m g =
+    search (rules, m.ow, m.wn, m.ww, m.here, g.ox, g.xo, g.xn, g.wx, g.xw)
+mover_go o w x n false false true m g =
+    search (rules, m.ow, m.wn, m.ww, m.here, g.ox, g.xo, g.xn, g.wx, g.xw)
+mover_go o w x n false false false m g =
+    search (rules, m.ow, m.wn, m.ww, m.here, g.ox, g.xo, g.xn, g.wx, g.xw)
+
+-- with two
+mover_go_two : (o w x y n : List ℕ) (on first at second and_at : Bool) → IsMover o w n on
+    → IsGoer o w n x first at → IsGoer o w n y second and_at
+    → nick_behind_both (Rename o w) (Go x (Some y)) n
+    ≡ nick_behind_both (Go x (Some y)) (Rename o w) n
+mover_go_two o w x y n true true true true true m g h =
+    search (rules, m.ow, m.wn, m.ww, m.here, g.ox, g.xo, g.xn, g.wx, g.xw, h.ox, h.xo, h.xn,
+    h.wx, h.xw)
+mover_go_two o w x y n true true true true false m g h =
+    absurd (true≢false (sym h.ox ∙ first_same o n y m.here ∙ not_turned y n h.xn))
+mover_go_two o w x y n true true true false true m g h =
+    absurd (true≢false (sym (turned y n h.xn) ∙ sym (first_same o n y m.here) ∙ h.ox))
+mover_go_two o w x y n true true true false false m g h =
+    search (rules, m.ow, m.wn, m.ww, m.here, g.ox, g.xo, g.xn, g.wx, g.xw, h.ox, h.xo, h.xn,
+    h.wx, h.xw)
+mover_go_two o w x y n true true false true true m g h =
+    absurd (true≢false (sym g.ox ∙ first_same o n x m.here ∙ not_turned x n g.xn))
+mover_go_two o w x y n true true false true false m g h =
+    absurd (true≢false (sym g.ox ∙ first_same o n x m.here ∙ not_turned x n g.xn))
+mover_go_two o w x y n true true false false true m g h =
+    absurd (true≢false (sym g.ox ∙ first_same o n x m.here ∙ not_turned x n g.xn))
+mover_go_two o w x y n true true false false false m g h =
+    absurd (true≢false (sym g.ox ∙ first_same o n x m.here ∙ not_turned x n g.xn))
+mover_go_two o w x y n true false true true true m g h =
+    absurd (true≢false (sym (turned x n g.xn) ∙ sym (first_same o n x m.here) ∙ g.ox))
+mover_go_two o w x y n true false true true false m g h =
+    absurd (true≢false (sym (turned x n g.xn) ∙ sym (first_same o n x m.here) ∙ g.ox))
+mover_go_two o w x y n true false true false true m g h =
+    absurd (true≢false (sym (turned x n g.xn) ∙ sym (first_same o n x m.here) ∙ g.ox))
+mover_go_two o w x y n true false true false false m g h =
+    absurd (true≢false (sym (turned x n g.xn) ∙ sym (first_same o n x m.here) ∙ g.ox))
+mover_go_two o w x y n true false false true true m g h =
+    search (rules, m.ow, m.wn, m.ww, m.here, g.ox, g.xo, g.xn, g.wx, g.xw, h.ox, h.xo, h.xn,
+    h.wx, h.xw)
+mover_go_two o w x y n true false false true false m g h =
+    absurd (true≢false (sym h.ox ∙ first_same o n y m.here ∙ not_turned y n h.xn))
+mover_go_two o w x y n true false false false true m g h =
+    absurd (true≢false (sym (turned y n h.xn) ∙ sym (first_same o n y m.here) ∙ h.ox))
+mover_go_two o w x y n true false false false false m g h =
+    search (rules, m.ow, m.wn, m.ww, m.here, g.ox, g.xo, g.xn, g.wx, g.xw, h.ox, h.xo, h.xn,
+    h.wx, h.xw)
+mover_go_two o w x y n false true true true true m g h =
+    absurd (true≢false (sym g.xn ∙ sym (first_same o x n g.ox) ∙ m.here))
+mover_go_two o w x y n false true true true false m g h =
+    absurd (true≢false (sym g.xn ∙ sym (first_same o x n g.ox) ∙ m.here))
+mover_go_two o w x y n false true true false true m g h =
+    absurd (true≢false (sym g.xn ∙ sym (first_same o x n g.ox) ∙ m.here))
+mover_go_two o w x y n false true true false false m g h =
+    absurd (true≢false (sym g.xn ∙ sym (first_same o x n g.ox) ∙ m.here))
+mover_go_two o w x y n false true false true true m g h =
+    absurd (true≢false (sym h.xn ∙ sym (first_same o y n h.ox) ∙ m.here))
+mover_go_two o w x y n false true false true false m g h =
+    search (rules, m.ow, m.wn, m.ww, m.here, g.ox, g.xo, g.xn, g.wx, g.xw, h.ox, h.xo, h.xn,
+    h.wx, h.xw)
+mover_go_two o w x y n false true false false true m g h =
+    search (rules, m.ow, m.wn, m.ww, m.here, g.ox, g.xo, g.xn, g.wx, g.xw, h.ox, h.xo, h.xn,
+    h.wx, h.xw)
+mover_go_two o w x y n false true false false false m g h =
+    search (rules, m.ow, m.wn, m.ww, m.here, g.ox, g.xo, g.xn, g.wx, g.xw, h.ox, h.xo, h.xn,
+    h.wx, h.xw)
+mover_go_two o w x y n false false true true true m g h =
+    absurd (true≢false (sym h.xn ∙ sym (first_same o y n h.ox) ∙ m.here))
+mover_go_two o w x y n false false true true false m g h =
+    search (rules, m.ow, m.wn, m.ww, m.here, g.ox, g.xo, g.xn, g.wx, g.xw, h.ox, h.xo, h.xn,
+    h.wx, h.xw)
+mover_go_two o w x y n false false true false true m g h =
+    search (rules, m.ow, m.wn, m.ww, m.here, g.ox, g.xo, g.xn, g.wx, g.xw, h.ox, h.xo, h.xn,
+    h.wx, h.xw)
+mover_go_two o w x y n false false true false false m g h =
+    search (rules, m.ow, m.wn, m.ww, m.here, g.ox, g.xo, g.xn, g.wx, g.xw, h.ox, h.xo, h.xn,
+    h.wx, h.xw)
+mover_go_two o w x y n false false false true true m g h =
+    absurd (true≢false (sym h.xn ∙ sym (first_same o y n h.ox) ∙ m.here))
+mover_go_two o w x y n false false false true false m g h =
+    search (rules, m.ow, m.wn, m.ww, m.here, g.ox, g.xo, g.xn, g.wx, g.xw, h.ox, h.xo, h.xn,
+    h.wx, h.xw)
+mover_go_two o w x y n false false false false true m g h =
+    search (rules, m.ow, m.wn, m.ww, m.here, g.ox, g.xo, g.xn, g.wx, g.xw, h.ox, h.xo, h.xn,
+    h.wx, h.xw)
+mover_go_two o w x y n false false false false false m g h =
+    search (rules, m.ow, m.wn, m.ww, m.here, g.ox, g.xo, g.xn, g.wx, g.xw, h.ox, h.xo, h.xn,
+    h.wx, h.xw)
+
+spelled_go_two : (o w x y n : List ℕ) (xo xn yo yn : Bool) → same o w ≡ true → same x o ≡ xo
+    → same x n ≡ xn → same y o ≡ yo → same y n ≡ yn
+    → nick_behind_both (Rename o w) (Go x (Some y)) n
+    ≡ nick_behind_both (Go x (Some y)) (Rename o w) n
+spelled_go_two o w x y n true true true true ow xo xn yo yn = search (rules, ow, xo, xn, yo, yn)
+spelled_go_two o w x y n true true true false ow xo xn yo yn = search (rules, ow, xo, xn, yo, yn)
+spelled_go_two o w x y n true true false true ow xo xn yo yn = search (rules, ow, xo, xn, yo, yn)
+spelled_go_two o w x y n true true false false ow xo xn yo yn = search (rules, ow, xo, xn, yo, yn)
+spelled_go_two o w x y n true false true true ow xo xn yo yn = search (rules, ow, xo, xn, yo, yn)
+spelled_go_two o w x y n true false true false ow xo xn yo yn = search (rules, ow, xo, xn, yo, yn)
+spelled_go_two o w x y n true false false true ow xo xn yo yn = search (rules, ow, xo, xn, yo, yn)
+spelled_go_two o w x y n true false false false ow xo xn yo yn = search (rules, ow, xo, xn, yo, yn)
+spelled_go_two o w x y n false true true true ow xo xn yo yn = search (rules, ow, xo, xn, yo, yn)
+spelled_go_two o w x y n false true true false ow xo xn yo yn = search (rules, ow, xo, xn, yo, yn)
+spelled_go_two o w x y n false true false true ow xo xn yo yn = search (rules, ow, xo, xn, yo, yn)
+spelled_go_two o w x y n false true false false ow xo xn yo yn = search (rules, ow, xo, xn, yo, yn)
+spelled_go_two o w x y n false false true true ow xo xn yo yn = search (rules, ow, xo, xn, yo, yn)
+spelled_go_two o w x y n false false true false ow xo xn yo yn = search (rules, ow, xo, xn, yo, yn)
+spelled_go_two o w x y n false false false true ow xo xn yo yn = search (rules, ow, xo, xn, yo, yn)
+spelled_go_two o w x y n false false false false ow xo xn yo yn = search (rules, ow, xo, xn, yo, yn)
+
+-- ---- those who go
+
+gone_alike : (x : List ℕ) (y : Option (List ℕ)) (one other : List ℕ) → same one other ≡ true
+    → is_gone x y one ≡ is_gone x y other
+gone_alike x y one other is =
+    ap (λ folds. pointwise nat_eq (key x) folds
+    || option_map_or (λ it. pointwise nat_eq (key it) folds) y false)
+    ((same-tells one other).0 is)
+
+module _ (p : List ℕ) (q : Option (List ℕ)) (n : List ℕ) where
+  abbrev theirs_then : Option Change → Option (List ℕ)
+  theirs_then left = option_and_then (nick_after left) (nick_now (Go p q) n)
+
+  -- who goes by this end's change alone is not the one at hand
+  not_at : (x : List ℕ) → is_gone p q n ≡ false → is_gone p q x ≡ true → same x n ≡ false
+  not_at x stays gone = by (same x n) refl
+    where
+      by : (b : Bool) → same x n ≡ b → b ≡ false
+      by true is = absurd (true≢false (sym gone ∙ gone_alike p q x n is ∙ stays))
+      by false is = refl
+
+  go_one : (x : List ℕ) (ours gone xn : Bool) → is_gone p q n ≡ ours → is_gone p q x ≡ gone
+      → same x n ≡ xn
+      → theirs_then (gone_of (nick_now (Go p q) x) None)
+      ≡ (if ours || (xn || false) then None else Some n)
+  go_one x true gone xn us it at = search (rules, us)
+  go_one x false true true us it at = absurd (true≢false (sym at ∙ not_at x us it))
+  go_one x false true false us it at = search (rules, us, it, at)
+  go_one x false false true us it at = search (rules, us, it, at)
+  go_one x false false false us it at = search (rules, us, it, at)
+
+  go_two : (x y : List ℕ) (ours first second xn yn : Bool) → is_gone p q n ≡ ours
+      → is_gone p q x ≡ first → is_gone p q y ≡ second → same x n ≡ xn → same y n ≡ yn
+      → theirs_then (gone_of (nick_now (Go p q) x) (nick_now (Go p q) y))
+      ≡ (if ours || (xn || yn) then None else Some n)
+  go_two x y true first second xn yn us one two at and_at = search (rules, us)
+  go_two x y false true second true yn us one two at and_at =
+      absurd (true≢false (sym at ∙ not_at x us one))
+  go_two x y false first true xn true us one two at and_at =
+      absurd (true≢false (sym and_at ∙ not_at y us two))
+  go_two x y false true true false false us one two at and_at =
+      search (rules, us, one, two, at, and_at)
+  go_two x y false true false false true us one two at and_at =
+      search (rules, us, one, two, at, and_at)
+  go_two x y false true false false false us one two at and_at =
+      search (rules, us, one, two, at, and_at)
+  go_two x y false false true true false us one two at and_at =
+      search (rules, us, one, two, at, and_at)
+  go_two x y false false true false false us one two at and_at =
+      search (rules, us, one, two, at, and_at)
+  go_two x y false false false true true us one two at and_at =
+      search (rules, us, one, two, at, and_at)
+  go_two x y false false false true false us one two at and_at =
+      search (rules, us, one, two, at, and_at)
+  go_two x y false false false false true us one two at and_at =
+      search (rules, us, one, two, at, and_at)
+  go_two x y false false false false false us one two at and_at =
+      search (rules, us, one, two, at, and_at)
+
+  all_go : (x : List ℕ) (y : Option (List ℕ)) → nick_behind_both (Go x y) (Go p q) n
+      ≡ (if is_gone p q n || is_gone x y n then None else Some n)
+  all_go x None = go_one x (is_gone p q n) (is_gone p q x) (same x n) refl refl refl
+  all_go x (Some y) = go_two x y (is_gone p q n) (is_gone p q x) (is_gone p q y)
+      (same x n) (same y n) refl refl refl refl refl
+
+or_turned : (a b : Bool) → (a || b) ≡ (b || a)
+or_turned true true = refl
+or_turned true false = refl
+or_turned false true = refl
+or_turned false false = refl
+
+go_agrees : (x : List ℕ) (y : Option (List ℕ)) (p : List ℕ) (q : Option (List ℕ)) (n : List ℕ)
+    → nick_behind_both (Go x y) (Go p q) n ≡ nick_behind_both (Go p q) (Go x y) n
+go_agrees x y p q n =
+    all_go p q n x y
+    ∙ ap (λ b. if b then None else Some n) (or_turned (is_gone p q n) (is_gone x y n))
+    ∙ sym (all_go x y n p q)
+
+-- ---- among names
+
+either_way : (one other : List ℕ) → same other one ≡ same one other
+either_way one other = by (same one other) refl
+  where
+    by : (b : Bool) → same one other ≡ b → same other one ≡ b
+    by true is = turned one other is
+    by false is = not_turned one other is
+
+module _ (here : List ℕ → Bool) (names : AreNames here) where
+  apart : (one other : List ℕ) → here one ≡ true → here other ≡ false → same one other ≡ false
+  apart one other is free = by (same one other) refl
+    where
+      by : (b : Bool) → same one other ≡ b → b ≡ false
+      by true alike = absurd (true≢false (sym is ∙ names one other alike ∙ free))
+      by false alike = refl
+
+  free_of : (free one : List ℕ) → here free ≡ false → here one ≡ true → same free one ≡ false
+  free_of free one none is = not_turned one free (apart one free is none)
+
+  module _ (n : List ℕ) (is : here n ≡ true) where
+    abbrev Agree : (theirs ours : Change) → Type 0
+    Agree theirs ours = nick_behind_both theirs ours n ≡ nick_behind_both ours theirs n
+
+    come_come_agree : (a b : List ℕ) → here a ≡ false → here b ≡ false → Agree (Come a) (Come b)
+    come_come_agree a b free other = come_come a b n (same a b) refl (either_way a b)
+        (free_of a n free is) (free_of b n other is)
+
+    come_rename_agree : (a o w : List ℕ) → here a ≡ false → MayRename here o w
+        → Agree (Come a) (Rename o w)
+    come_rename_agree a o w free may = by (same o w) refl
+      where
+        by : (b : Bool) → same o w ≡ b → Agree (Come a) (Rename o w)
+        by true spelled =
+            come_spelled a o w n spelled (free_of a n free is) (free_of a o free may.had)
+        by false other = come_rename a o w n (same a w) (same o n) other (free_of a n free is)
+            (free_of a o free may.had) (free_of w n (may.free other) is) refl (either_way a w) refl
+
+    come_go_agree : (a x : List ℕ) (y : Option (List ℕ)) → here a ≡ false → MayGo here x y
+        → Agree (Come a) (Go x y)
+    come_go_agree a x None free may =
+        come_go a x n (same x n) refl (free_of a n free is) (free_of a x free may.one)
+    come_go_agree a x (Some y) free may =
+        come_go_two a x y n (same x n) (same y n) refl refl (free_of a n free is)
+        (free_of a x free may.one) (free_of a y free may.second)
+
+    rename_rename_agree : (o w p v : List ℕ) → MayRename here o w → MayRename here p v
+        → same o p ≡ false → Agree (Rename o w) (Rename p v)
+    rename_rename_agree o w p v may other two = by (same o w) (same p v) refl refl
+      where
+        po : same p o ≡ false
+        po = not_turned o p two
+
+        by : (a b : Bool) → same o w ≡ a → same p v ≡ b → Agree (Rename o w) (Rename p v)
+        by true true ow pv = both_spelled o w p v n ow pv
+        by true false ow pv = one_spelled o w p v n (same p n) ow pv po
+            (free_of v o (other.free pv) may.had) (free_of v n (other.free pv) is) refl
+        by false true ow pv = sym (one_spelled p v o w n (same o n) pv ow two
+            (free_of w p (may.free ow) other.had) (free_of w n (may.free ow) is) refl)
+        by false false ow pv = none_spelled o w p v n (same w v) (same o n) (same p n)
+            (record {
+              ow = ow;
+              pv = pv;
+              op = two;
+              po = po;
+              wn = free_of w n (may.free ow) is;
+              vn = free_of v n (other.free pv) is;
+              wp = free_of w p (may.free ow) other.had;
+              pw = apart p w other.had (may.free ow);
+              vo = free_of v o (other.free pv) may.had;
+              ov = apart o v may.had (other.free pv);
+            })
+            refl (either_way w v) refl refl
+
+    goer : (o w x : List ℕ) → here w ≡ false → here x ≡ true
+        → IsGoer o w n x (same o x) (same x n)
+    goer o w x free there = record {
+      ox = refl;
+      xo = either_way o x;
+      xn = refl;
+      wx = free_of w x free there;
+      xw = apart x w there free;
+    }
+
+    rename_go_agree : (o w x : List ℕ) (y : Option (List ℕ)) → MayRename here o w
+        → MayGo here x y → Agree (Rename o w) (Go x y)
+    rename_go_agree o w x y may go = by y go (same o w) refl
+      where
+        mover : same o w ≡ false → IsMover o w n (same o n)
+        mover ow = record {
+          ow = ow;
+          wn = free_of w n (may.free ow) is;
+          ww = same_self w;
+          here = refl;
+        }
+
+        by : (y : Option (List ℕ)) → MayGo here x y → (b : Bool) → same o w ≡ b
+            → Agree (Rename o w) (Go x y)
+        by None go true ow = spelled_go o w x n (same x o) (same x n) ow refl refl
+        by None go false ow = mover_go o w x n (same o n) (same o x) (same x n) (mover ow)
+            (goer o w x (may.free ow) go.one)
+        by (Some y) go true ow =
+            spelled_go_two o w x y n (same x o) (same x n) (same y o) (same y n) ow refl refl refl
+            refl
+        by (Some y) go false ow =
+            mover_go_two o w x y n (same o n) (same o x) (same x n) (same o y) (same y n)
+            (mover ow) (goer o w x (may.free ow) go.one) (goer o w y (may.free ow) go.second)
+
 pub both_ends_agree : BothEndsAgree
-both_ends_agree here theirs ours names possible other_possible two nick is = ?
+both_ends_agree here (Out out channel) ours names may other two n is =
+    out_agrees ours out channel n
+both_ends_agree here (Come a) (Out out channel) names may other two n is =
+    sym (out_agrees (Come a) out channel n)
+both_ends_agree here (Rename o w) (Out out channel) names may other two n is =
+    sym (out_agrees (Rename o w) out channel n)
+both_ends_agree here (Go x y) (Out out channel) names may other two n is =
+    sym (out_agrees (Go x y) out channel n)
+both_ends_agree here (Come a) (Come b) names may other two n is =
+    come_come_agree here names n is a b may other
+both_ends_agree here (Come a) (Rename o w) names may other two n is =
+    come_rename_agree here names n is a o w may other
+both_ends_agree here (Come a) (Go x y) names may other two n is =
+    come_go_agree here names n is a x y may other
+both_ends_agree here (Rename o w) (Come a) names may other two n is =
+    sym (come_rename_agree here names n is a o w other may)
+both_ends_agree here (Rename o w) (Rename p v) names may other two n is =
+    rename_rename_agree here names n is o w p v may other two
+both_ends_agree here (Rename o w) (Go x y) names may other two n is =
+    rename_go_agree here names n is o w x y may other
+both_ends_agree here (Go x y) (Come a) names may other two n is =
+    sym (come_go_agree here names n is a x y other may)
+both_ends_agree here (Go x y) (Rename o w) names may other two n is =
+    sym (rename_go_agree here names n is o w x y other may)
+both_ends_agree here (Go x y) (Go p q) names may other two n is = go_agrees x y p q n
