@@ -10,18 +10,18 @@ use Rattle.irc_crossing.specs.declared.change.Change.{Change}
 use Rattle.irc_crossing.specs.declared.change.Change.TheVariants.{Come, Rename, Go, Out}
 use Rattle.irc_crossing.specs.Changes.{are_met, behind, both_go, crossed, is_gone, member_now}
 use Rattle.irc_crossing.specs.Changes.{gone_of, nick_now, renamed_now, taken_by}
-use Rattle.irc_crossing.specs.Laws.{AreNames, BothEndsAgree, MayGo, MayRename, nick_after}
-use Rattle.irc_crossing.specs.Laws.{nick_behind_both}
+use Rattle.irc_crossing.specs.Laws.{AreNames, AreOfTwo, IsPossible, MayGo, MayRename, NewcomersAgree}
+use Rattle.irc_crossing.specs.Laws.{nick_after, nick_behind_both}
 
 -- ---- names that are the same
 
-same_self : (nick : List ℕ) → same nick nick ≡ true
+pub same_self : (nick : List ℕ) → same nick nick ≡ true
 same_self nick = (same-tells nick nick).1 refl
 
-turned : (one other : List ℕ) → same one other ≡ true → same other one ≡ true
+pub turned : (one other : List ℕ) → same one other ≡ true → same other one ≡ true
 turned one other is = (same-tells other one).1 (sym ((same-tells one other).0 is))
 
-not_turned : (one other : List ℕ) → same one other ≡ false → same other one ≡ false
+pub not_turned : (one other : List ℕ) → same one other ≡ false → same other one ≡ false
 not_turned one other not = by (same other one) refl
   where
     by : (b : Bool) → same other one ≡ b → b ≡ false
@@ -29,7 +29,7 @@ not_turned one other not = by (same other one) refl
     by false is = refl
 
 -- one of two that are the same, against a third
-first_same : (one other third : List ℕ) → same one other ≡ true → same one third ≡ same other third
+pub first_same : (one other third : List ℕ) → same one other ≡ true → same one third ≡ same other third
 first_same one other third is =
     ap (λ folds. pointwise nat_eq folds (key third)) ((same-tells one other).0 is)
 
@@ -162,18 +162,18 @@ spelled_go o w x n false true ow xo xn = search (rules, ow, xo, xn)
 spelled_go o w x n false false ow xo xn = search (rules, ow, xo, xn)
 
 -- of somebody who goes: whether it is the one who takes another nickname, and the one at hand
-record IsGoer (o w n x : List ℕ) (first at : Bool) : Type 0 where
-  ox : same o x ≡ first
-  xo : same x o ≡ first
-  xn : same x n ≡ at
-  wx : same w x ≡ false
-  xw : same x w ≡ false
+pub record IsGoer (o w n x : List ℕ) (first at : Bool) : Type 0 where
+  pub ox : same o x ≡ first
+  pub xo : same x o ≡ first
+  pub xn : same x n ≡ at
+  pub wx : same w x ≡ false
+  pub xw : same x w ≡ false
 
-record IsMover (o w n : List ℕ) (on : Bool) : Type 0 where
-  ow : same o w ≡ false
-  wn : same w n ≡ false
-  ww : same w w ≡ true
-  here : same o n ≡ on
+pub record IsMover (o w n : List ℕ) (on : Bool) : Type 0 where
+  pub ow : same o w ≡ false
+  pub wn : same w n ≡ false
+  pub ww : same w w ≡ true
+  pub here : same o n ≡ on
 
 -- with one who goes
 mover_go : (o w x n : List ℕ) (on first at : Bool) → IsMover o w n on → IsGoer o w n x first at
@@ -301,7 +301,7 @@ spelled_go_two o w x y n false false false false ow xo xn yo yn = search (rules,
 
 -- ---- those who go
 
-gone_alike : (x : List ℕ) (y : Option (List ℕ)) (one other : List ℕ) → same one other ≡ true
+pub gone_alike : (x : List ℕ) (y : Option (List ℕ)) (one other : List ℕ) → same one other ≡ true
     → is_gone x y one ≡ is_gone x y other
 gone_alike x y one other is =
     ap (λ folds. pointwise nat_eq (key x) folds
@@ -364,7 +364,7 @@ module _ (p : List ℕ) (q : Option (List ℕ)) (n : List ℕ) where
   all_go x (Some y) = go_two x y (is_gone p q n) (is_gone p q x) (is_gone p q y)
       (same x n) (same y n) refl refl refl refl refl
 
-or_turned : (a b : Bool) → (a || b) ≡ (b || a)
+pub or_turned : (a b : Bool) → (a || b) ≡ (b || a)
 or_turned true true = refl
 or_turned true false = refl
 or_turned false true = refl
@@ -379,7 +379,7 @@ go_agrees x y p q n =
 
 -- ---- among names
 
-either_way : (one other : List ℕ) → same other one ≡ same one other
+pub either_way : (one other : List ℕ) → same other one ≡ same one other
 either_way one other = by (same one other) refl
   where
     by : (b : Bool) → same one other ≡ b → same other one ≡ b
@@ -394,7 +394,7 @@ module _ (here : List ℕ → Bool) (names : AreNames here) where
       by true alike = absurd (true≢false (sym is ∙ names one other alike ∙ free))
       by false alike = refl
 
-  free_of : (free one : List ℕ) → here free ≡ false → here one ≡ true → same free one ≡ false
+  pub free_of : (free one : List ℕ) → here free ≡ false → here one ≡ true → same free one ≡ false
   free_of free one none is = not_turned one free (apart one free is none)
 
   module _ (n : List ℕ) (is : here n ≡ true) where
@@ -451,7 +451,7 @@ module _ (here : List ℕ → Bool) (names : AreNames here) where
             })
             refl (either_way w v) refl refl
 
-    goer : (o w x : List ℕ) → here w ≡ false → here x ≡ true
+    pub goer : (o w x : List ℕ) → here w ≡ false → here x ≡ true
         → IsGoer o w n x (same o x) (same x n)
     goer o w x free there = record {
       ox = refl;
@@ -485,29 +485,76 @@ module _ (here : List ℕ → Bool) (names : AreNames here) where
             mover_go_two o w x y n (same o n) (same o x) (same x n) (same o y) (same y n)
             (mover ow) (goer o w x (may.free ow) go.one) (goer o w y (may.free ow) go.second)
 
-pub both_ends_agree : BothEndsAgree
-both_ends_agree here (Out out channel) ours names may other two n is =
+pub both_nicks_agree : (here : List ℕ → Bool) (theirs ours : Change) → AreNames here
+    → IsPossible here theirs → IsPossible here ours → AreOfTwo theirs ours
+    → (nick : List ℕ) → here nick ≡ true
+    → nick_behind_both theirs ours nick ≡ nick_behind_both ours theirs nick
+both_nicks_agree here (Out out channel) ours names may other two n is =
     out_agrees ours out channel n
-both_ends_agree here (Come a) (Out out channel) names may other two n is =
+both_nicks_agree here (Come a) (Out out channel) names may other two n is =
     sym (out_agrees (Come a) out channel n)
-both_ends_agree here (Rename o w) (Out out channel) names may other two n is =
+both_nicks_agree here (Rename o w) (Out out channel) names may other two n is =
     sym (out_agrees (Rename o w) out channel n)
-both_ends_agree here (Go x y) (Out out channel) names may other two n is =
+both_nicks_agree here (Go x y) (Out out channel) names may other two n is =
     sym (out_agrees (Go x y) out channel n)
-both_ends_agree here (Come a) (Come b) names may other two n is =
+both_nicks_agree here (Come a) (Come b) names may other two n is =
     come_come_agree here names n is a b may other
-both_ends_agree here (Come a) (Rename o w) names may other two n is =
+both_nicks_agree here (Come a) (Rename o w) names may other two n is =
     come_rename_agree here names n is a o w may other
-both_ends_agree here (Come a) (Go x y) names may other two n is =
+both_nicks_agree here (Come a) (Go x y) names may other two n is =
     come_go_agree here names n is a x y may other
-both_ends_agree here (Rename o w) (Come a) names may other two n is =
+both_nicks_agree here (Rename o w) (Come a) names may other two n is =
     sym (come_rename_agree here names n is a o w other may)
-both_ends_agree here (Rename o w) (Rename p v) names may other two n is =
+both_nicks_agree here (Rename o w) (Rename p v) names may other two n is =
     rename_rename_agree here names n is o w p v may other two
-both_ends_agree here (Rename o w) (Go x y) names may other two n is =
+both_nicks_agree here (Rename o w) (Go x y) names may other two n is =
     rename_go_agree here names n is o w x y may other
-both_ends_agree here (Go x y) (Come a) names may other two n is =
+both_nicks_agree here (Go x y) (Come a) names may other two n is =
     sym (come_go_agree here names n is a x y other may)
-both_ends_agree here (Go x y) (Rename o w) names may other two n is =
+both_nicks_agree here (Go x y) (Rename o w) names may other two n is =
     sym (rename_go_agree here names n is o w x y other may)
-both_ends_agree here (Go x y) (Go p q) names may other two n is = go_agrees x y p q n
+both_nicks_agree here (Go x y) (Go p q) names may other two n is = go_agrees x y p q n
+
+-- ---- who comes
+
+newcomer_met : (a o w : List ℕ) (met : Bool) → same a w ≡ met → same w a ≡ met → same o w ≡ false
+    → same o a ≡ false → same a o ≡ false → nick_after (crossed (Rename o w) (Come a)) a
+    ≡ option_and_then taken_by (crossed (Come a) (Rename o w))
+newcomer_met a o w true aw wa ow oa ao = search (rules, aw, wa, ow, oa, ao)
+newcomer_met a o w false aw wa ow oa ao = search (rules, aw, wa, ow, oa, ao)
+
+newcomer_spelled : (a o w : List ℕ) → same o w ≡ true → same a o ≡ false
+    → nick_after (crossed (Rename o w) (Come a)) a
+    ≡ option_and_then taken_by (crossed (Come a) (Rename o w))
+newcomer_spelled a o w ow ao = search (rules, ow, ao)
+
+newcomers_meet : (a b : List ℕ) (met : Bool) → same a b ≡ met → same b a ≡ met
+    → nick_after (crossed (Come b) (Come a)) a ≡ option_and_then taken_by (crossed (Come a) (Come b))
+newcomers_meet a b true ab ba = search (rules, ab, ba)
+newcomers_meet a b false ab ba = search (rules, ab, ba)
+
+newcomer_stays : (a x : List ℕ) → same x a ≡ false → same a x ≡ false
+    → nick_after (crossed (Go x None) (Come a)) a ≡ Some a
+newcomer_stays a x xa ax = search (rules, xa, ax)
+
+newcomer_stays_of_two : (a x y : List ℕ) → same x a ≡ false → same y a ≡ false → same a x ≡ false
+    → same a y ≡ false → nick_after (crossed (Go x (Some y)) (Come a)) a ≡ Some a
+newcomer_stays_of_two a x y xa ya ax ay = search (rules, xa, ya, ax, ay)
+
+pub newcomers_agree : NewcomersAgree
+newcomers_agree here a (Come b) names free may = newcomers_meet a b (same a b) refl (either_way a b)
+newcomers_agree here a (Rename o w) names free may = by (same o w) refl
+  where
+    by : (b : Bool) → same o w ≡ b → nick_after (crossed (Rename o w) (Come a)) a
+        ≡ option_and_then taken_by (crossed (Come a) (Rename o w))
+    by true ow = newcomer_spelled a o w ow (free_of here names a o free may.had)
+    by false ow = newcomer_met a o w (same a w) refl (either_way a w) ow
+        (apart here names o a may.had free) (free_of here names a o free may.had)
+newcomers_agree here a (Go x None) names free may =
+    newcomer_stays a x (apart here names x a may.one free) (free_of here names a x free may.one)
+newcomers_agree here a (Go x (Some y)) names free may =
+    newcomer_stays_of_two a x y (apart here names x a may.one free)
+    (apart here names y a may.second free)
+    (free_of here names a x free may.one) (free_of here names a y free may.second)
+newcomers_agree here a (Out out channel) names free may =
+    out_keeps channel a (member_now (Come a) channel out)

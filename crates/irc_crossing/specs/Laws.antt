@@ -10,7 +10,7 @@ use Rattle.irc_line.specs.declared.reading.LineFault.{LineFault}
 use Rattle.irc_names.specs.Fold.{same}
 use Rattle.irc_names.specs.Names.{is_nick}
 use Rattle.irc_link_words.specs.Words.{is_for_channel}
-use Rattle.irc_crossing.specs.Changes.{crossed, nick_now, taken_by}
+use Rattle.irc_crossing.specs.Changes.{crossed, member_now, nick_now, taken_by}
 use Rattle.irc_crossing.specs.Hearing.{given, log_after}
 use Rattle.irc_crossing.specs.Lines.{is_mode_line, is_nick_line, is_sign}
 use Rattle.irc_crossing.specs.Logs.{means}
@@ -110,7 +110,7 @@ abbrev pub IsPossible : (here : List ℕ → Bool) → Change → Type 0
 IsPossible here (Come nick) = here nick ≡ false
 IsPossible here (Rename nick new) = MayRename here nick new
 IsPossible here (Go nick other) = MayGo here nick other
-IsPossible here (Out nick channel) = ⊤
+IsPossible here (Out nick channel) = here nick ≡ true
 
 -- one end alone gives a user another nickname
 abbrev pub AreOfTwo : (theirs ours : Change) → Type 0
@@ -131,11 +131,32 @@ abbrev pub nick_behind_both : (theirs ours : Change) → List ℕ → Option (Li
 nick_behind_both theirs ours nick =
     option_and_then (nick_after (crossed theirs ours)) (nick_now ours nick)
 
+-- The same of a member of a channel.
+abbrev pub member_after : Option Change → (channel nick : List ℕ) → Option (List ℕ)
+member_after change channel nick =
+    option_map_or (λ it. member_now it channel nick) change (Some nick)
+
+abbrev pub member_behind_both : (theirs ours : Change) → (channel nick : List ℕ) → Option (List ℕ)
+member_behind_both theirs ours channel nick =
+    option_and_then (member_after (crossed theirs ours) channel) (member_now ours channel nick)
+
 -- Each end does its own change, and then what becomes of the other's: whoever was there has one
--- nickname at both ends then, or is gone at both.
+-- nickname at both ends then, or is gone at both; and a member of a channel is one at both.
+pub record AreAgreed (theirs ours : Change) (nick : List ℕ) : Type 0 where
+  pub nicks : nick_behind_both theirs ours nick ≡ nick_behind_both ours theirs nick
+  pub members : (channel : List ℕ)
+      → member_behind_both theirs ours channel nick ≡ member_behind_both ours theirs channel nick
+
 abbrev pub BothEndsAgree : Type 0
 BothEndsAgree =
     (here : List ℕ → Bool) (theirs ours : Change) → AreNames here → IsPossible here theirs
     → IsPossible here ours → AreOfTwo theirs ours
-    → (nick : List ℕ) → here nick ≡ true
-    → nick_behind_both theirs ours nick ≡ nick_behind_both ours theirs nick
+    → (nick : List ℕ) → here nick ≡ true → AreAgreed theirs ours nick
+
+-- So it is with somebody who comes by a change: that one comes at the other end too, or is gone.
+abbrev pub NewcomersAgree : Type 0
+NewcomersAgree =
+    (here : List ℕ → Bool) (nick : List ℕ) (ours : Change) → AreNames here → here nick ≡ false
+    → IsPossible here ours
+    → nick_after (crossed ours (Come nick)) nick
+    ≡ option_and_then taken_by (crossed (Come nick) ours)

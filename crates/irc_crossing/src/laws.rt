@@ -7,7 +7,7 @@ ghost use Rattle.irc_crossing.specs.Examples.{KilledIsFollowed, LetterIsLeftOut,
 ghost use Rattle.irc_crossing.specs.Examples.{MetIsGiven, MetIsKilled, ModeIsLeftOut};
 ghost use Rattle.irc_crossing.specs.Examples.{NextIsSpared, PartIsLeftOut, TextIsLeftOut};
 ghost use Rattle.irc_crossing.specs.Laws.{BothEndsAgree, ComersAreOthers, NamesAreFollowed, NothingIsChanged};
-ghost use Rattle.irc_crossing.specs.Laws.{NothingIsLogged, TakersAreOthers, TwoToOneNameGo};
+ghost use Rattle.irc_crossing.specs.Laws.{NewcomersAgree, NothingIsLogged, TakersAreOthers, TwoToOneNameGo};
 ghost use Rattle.irc_crossing.specs.Laws.{WhoIsGoneIsLeftOut};
 
 /// Where nothing has crossed, a line is given as it came, and the log stays empty; but for a MODE
@@ -36,9 +36,10 @@ pub fn two_to_one_name_go()
 {}
 
 /// Where each end does its own change, and then what becomes of the other's, whoever was there has
-/// one nickname at both ends then, or is gone at both.
+/// one nickname at both ends then, or is gone at both; and so is who comes by one of them.
 pub fn both_ends_agree()
-    ensures { BothEndsAgree }
+    ensures here { BothEndsAgree }
+    ensures newcomers { NewcomersAgree }
 {}
 
 /// Lines that cross one of this end's.
