@@ -1,15 +1,14 @@
 -- Two changes, each done first at one end.
 use Rattle.std.proofs.Common.{◌≡◌, ℕ, Bool, true, false, ◌||◌, Option, Some, None, List, refl, sym}
 use Rattle.std.proofs.Common.{◌∙◌, ap, if◌then◌else◌, rules, nat_eq, true≢false}
-use Rattle.std.specs.Bool.{⊤}
 use Rattle.std.specs.Cmp.Lexicographic.{pointwise}
 use Rattle.std.specs.Option.{option_and_then, option_map_or, option_map}
 use Rattle.irc_names.specs.Fold.{key, same}
 use Rattle.irc_names.specs.FoldLaws.{same-tells}
 use Rattle.irc_crossing.specs.declared.change.Change.{Change}
 use Rattle.irc_crossing.specs.declared.change.Change.TheVariants.{Come, Rename, Go, Out}
-use Rattle.irc_crossing.specs.Changes.{are_met, behind, both_go, crossed, is_gone, member_now}
-use Rattle.irc_crossing.specs.Changes.{gone_of, nick_now, renamed_now, taken_by}
+use Rattle.irc_crossing.specs.Changes.{crossed, is_gone, member_now}
+use Rattle.irc_crossing.specs.Changes.{gone_of, nick_now, taken_by}
 use Rattle.irc_crossing.specs.Laws.{AreNames, AreOfTwo, IsPossible, MayGo, MayRename, NewcomersAgree}
 use Rattle.irc_crossing.specs.Laws.{nick_after, nick_behind_both}
 
@@ -134,23 +133,113 @@ none_spelled : (o w p v n : List ℕ) (met on pn : Bool) → AreApart o w p v n 
 none_spelled o w p v n met true true are wv vw on pn =
     absurd (true≢false (sym (turned p n pn) ∙ sym (first_same o n p on) ∙ are.op))
 none_spelled o w p v n true true false are wv vw on pn =
-    search (rules, are.ow, are.pv, are.op, are.po, are.wn, are.vn, are.wp, are.pw, are.vo, are.ov,
-    wv, vw, on, pn)
+    search (
+      rules,
+      are.ow,
+      are.pv,
+      are.op,
+      are.po,
+      are.wn,
+      are.vn,
+      are.wp,
+      are.pw,
+      are.vo,
+      are.ov,
+      wv,
+      vw,
+      on,
+      pn,
+    )
 none_spelled o w p v n true false true are wv vw on pn =
-    search (rules, are.ow, are.pv, are.op, are.po, are.wn, are.vn, are.wp, are.pw, are.vo, are.ov,
-    wv, vw, on, pn)
+    search (
+      rules,
+      are.ow,
+      are.pv,
+      are.op,
+      are.po,
+      are.wn,
+      are.vn,
+      are.wp,
+      are.pw,
+      are.vo,
+      are.ov,
+      wv,
+      vw,
+      on,
+      pn,
+    )
 none_spelled o w p v n true false false are wv vw on pn =
-    search (rules, are.ow, are.pv, are.op, are.po, are.wn, are.vn, are.wp, are.pw, are.vo, are.ov,
-    wv, vw, on, pn)
+    search (
+      rules,
+      are.ow,
+      are.pv,
+      are.op,
+      are.po,
+      are.wn,
+      are.vn,
+      are.wp,
+      are.pw,
+      are.vo,
+      are.ov,
+      wv,
+      vw,
+      on,
+      pn,
+    )
 none_spelled o w p v n false true false are wv vw on pn =
-    search (rules, are.ow, are.pv, are.op, are.po, are.wn, are.vn, are.wp, are.pw, are.vo, are.ov,
-    wv, vw, on, pn)
+    search (
+      rules,
+      are.ow,
+      are.pv,
+      are.op,
+      are.po,
+      are.wn,
+      are.vn,
+      are.wp,
+      are.pw,
+      are.vo,
+      are.ov,
+      wv,
+      vw,
+      on,
+      pn,
+    )
 none_spelled o w p v n false false true are wv vw on pn =
-    search (rules, are.ow, are.pv, are.op, are.po, are.wn, are.vn, are.wp, are.pw, are.vo, are.ov,
-    wv, vw, on, pn)
+    search (
+      rules,
+      are.ow,
+      are.pv,
+      are.op,
+      are.po,
+      are.wn,
+      are.vn,
+      are.wp,
+      are.pw,
+      are.vo,
+      are.ov,
+      wv,
+      vw,
+      on,
+      pn,
+    )
 none_spelled o w p v n false false false are wv vw on pn =
-    search (rules, are.ow, are.pv, are.op, are.po, are.wn, are.vn, are.wp, are.pw, are.vo, are.ov,
-    wv, vw, on, pn)
+    search (
+      rules,
+      are.ow,
+      are.pv,
+      are.op,
+      are.po,
+      are.wn,
+      are.vn,
+      are.wp,
+      are.pw,
+      are.vo,
+      are.ov,
+      wv,
+      vw,
+      on,
+      pn,
+    )
 
 -- ---- one who takes another nickname, and one or two who go
 
@@ -201,15 +290,45 @@ mover_go_two : (o w x y n : List ℕ) (on first at second and_at : Bool) → IsM
     → nick_behind_both (Rename o w) (Go x (Some y)) n
     ≡ nick_behind_both (Go x (Some y)) (Rename o w) n
 mover_go_two o w x y n true true true true true m g h =
-    search (rules, m.ow, m.wn, m.ww, m.here, g.ox, g.xo, g.xn, g.wx, g.xw, h.ox, h.xo, h.xn,
-    h.wx, h.xw)
+    search (
+      rules,
+      m.ow,
+      m.wn,
+      m.ww,
+      m.here,
+      g.ox,
+      g.xo,
+      g.xn,
+      g.wx,
+      g.xw,
+      h.ox,
+      h.xo,
+      h.xn,
+      h.wx,
+      h.xw,
+    )
 mover_go_two o w x y n true true true true false m g h =
     absurd (true≢false (sym h.ox ∙ first_same o n y m.here ∙ not_turned y n h.xn))
 mover_go_two o w x y n true true true false true m g h =
     absurd (true≢false (sym (turned y n h.xn) ∙ sym (first_same o n y m.here) ∙ h.ox))
 mover_go_two o w x y n true true true false false m g h =
-    search (rules, m.ow, m.wn, m.ww, m.here, g.ox, g.xo, g.xn, g.wx, g.xw, h.ox, h.xo, h.xn,
-    h.wx, h.xw)
+    search (
+      rules,
+      m.ow,
+      m.wn,
+      m.ww,
+      m.here,
+      g.ox,
+      g.xo,
+      g.xn,
+      g.wx,
+      g.xw,
+      h.ox,
+      h.xo,
+      h.xn,
+      h.wx,
+      h.xw,
+    )
 mover_go_two o w x y n true true false true true m g h =
     absurd (true≢false (sym g.ox ∙ first_same o n x m.here ∙ not_turned x n g.xn))
 mover_go_two o w x y n true true false true false m g h =
@@ -227,15 +346,45 @@ mover_go_two o w x y n true false true false true m g h =
 mover_go_two o w x y n true false true false false m g h =
     absurd (true≢false (sym (turned x n g.xn) ∙ sym (first_same o n x m.here) ∙ g.ox))
 mover_go_two o w x y n true false false true true m g h =
-    search (rules, m.ow, m.wn, m.ww, m.here, g.ox, g.xo, g.xn, g.wx, g.xw, h.ox, h.xo, h.xn,
-    h.wx, h.xw)
+    search (
+      rules,
+      m.ow,
+      m.wn,
+      m.ww,
+      m.here,
+      g.ox,
+      g.xo,
+      g.xn,
+      g.wx,
+      g.xw,
+      h.ox,
+      h.xo,
+      h.xn,
+      h.wx,
+      h.xw,
+    )
 mover_go_two o w x y n true false false true false m g h =
     absurd (true≢false (sym h.ox ∙ first_same o n y m.here ∙ not_turned y n h.xn))
 mover_go_two o w x y n true false false false true m g h =
     absurd (true≢false (sym (turned y n h.xn) ∙ sym (first_same o n y m.here) ∙ h.ox))
 mover_go_two o w x y n true false false false false m g h =
-    search (rules, m.ow, m.wn, m.ww, m.here, g.ox, g.xo, g.xn, g.wx, g.xw, h.ox, h.xo, h.xn,
-    h.wx, h.xw)
+    search (
+      rules,
+      m.ow,
+      m.wn,
+      m.ww,
+      m.here,
+      g.ox,
+      g.xo,
+      g.xn,
+      g.wx,
+      g.xw,
+      h.ox,
+      h.xo,
+      h.xn,
+      h.wx,
+      h.xw,
+    )
 mover_go_two o w x y n false true true true true m g h =
     absurd (true≢false (sym g.xn ∙ sym (first_same o x n g.ox) ∙ m.here))
 mover_go_two o w x y n false true true true false m g h =
@@ -247,36 +396,171 @@ mover_go_two o w x y n false true true false false m g h =
 mover_go_two o w x y n false true false true true m g h =
     absurd (true≢false (sym h.xn ∙ sym (first_same o y n h.ox) ∙ m.here))
 mover_go_two o w x y n false true false true false m g h =
-    search (rules, m.ow, m.wn, m.ww, m.here, g.ox, g.xo, g.xn, g.wx, g.xw, h.ox, h.xo, h.xn,
-    h.wx, h.xw)
+    search (
+      rules,
+      m.ow,
+      m.wn,
+      m.ww,
+      m.here,
+      g.ox,
+      g.xo,
+      g.xn,
+      g.wx,
+      g.xw,
+      h.ox,
+      h.xo,
+      h.xn,
+      h.wx,
+      h.xw,
+    )
 mover_go_two o w x y n false true false false true m g h =
-    search (rules, m.ow, m.wn, m.ww, m.here, g.ox, g.xo, g.xn, g.wx, g.xw, h.ox, h.xo, h.xn,
-    h.wx, h.xw)
+    search (
+      rules,
+      m.ow,
+      m.wn,
+      m.ww,
+      m.here,
+      g.ox,
+      g.xo,
+      g.xn,
+      g.wx,
+      g.xw,
+      h.ox,
+      h.xo,
+      h.xn,
+      h.wx,
+      h.xw,
+    )
 mover_go_two o w x y n false true false false false m g h =
-    search (rules, m.ow, m.wn, m.ww, m.here, g.ox, g.xo, g.xn, g.wx, g.xw, h.ox, h.xo, h.xn,
-    h.wx, h.xw)
+    search (
+      rules,
+      m.ow,
+      m.wn,
+      m.ww,
+      m.here,
+      g.ox,
+      g.xo,
+      g.xn,
+      g.wx,
+      g.xw,
+      h.ox,
+      h.xo,
+      h.xn,
+      h.wx,
+      h.xw,
+    )
 mover_go_two o w x y n false false true true true m g h =
     absurd (true≢false (sym h.xn ∙ sym (first_same o y n h.ox) ∙ m.here))
 mover_go_two o w x y n false false true true false m g h =
-    search (rules, m.ow, m.wn, m.ww, m.here, g.ox, g.xo, g.xn, g.wx, g.xw, h.ox, h.xo, h.xn,
-    h.wx, h.xw)
+    search (
+      rules,
+      m.ow,
+      m.wn,
+      m.ww,
+      m.here,
+      g.ox,
+      g.xo,
+      g.xn,
+      g.wx,
+      g.xw,
+      h.ox,
+      h.xo,
+      h.xn,
+      h.wx,
+      h.xw,
+    )
 mover_go_two o w x y n false false true false true m g h =
-    search (rules, m.ow, m.wn, m.ww, m.here, g.ox, g.xo, g.xn, g.wx, g.xw, h.ox, h.xo, h.xn,
-    h.wx, h.xw)
+    search (
+      rules,
+      m.ow,
+      m.wn,
+      m.ww,
+      m.here,
+      g.ox,
+      g.xo,
+      g.xn,
+      g.wx,
+      g.xw,
+      h.ox,
+      h.xo,
+      h.xn,
+      h.wx,
+      h.xw,
+    )
 mover_go_two o w x y n false false true false false m g h =
-    search (rules, m.ow, m.wn, m.ww, m.here, g.ox, g.xo, g.xn, g.wx, g.xw, h.ox, h.xo, h.xn,
-    h.wx, h.xw)
+    search (
+      rules,
+      m.ow,
+      m.wn,
+      m.ww,
+      m.here,
+      g.ox,
+      g.xo,
+      g.xn,
+      g.wx,
+      g.xw,
+      h.ox,
+      h.xo,
+      h.xn,
+      h.wx,
+      h.xw,
+    )
 mover_go_two o w x y n false false false true true m g h =
     absurd (true≢false (sym h.xn ∙ sym (first_same o y n h.ox) ∙ m.here))
 mover_go_two o w x y n false false false true false m g h =
-    search (rules, m.ow, m.wn, m.ww, m.here, g.ox, g.xo, g.xn, g.wx, g.xw, h.ox, h.xo, h.xn,
-    h.wx, h.xw)
+    search (
+      rules,
+      m.ow,
+      m.wn,
+      m.ww,
+      m.here,
+      g.ox,
+      g.xo,
+      g.xn,
+      g.wx,
+      g.xw,
+      h.ox,
+      h.xo,
+      h.xn,
+      h.wx,
+      h.xw,
+    )
 mover_go_two o w x y n false false false false true m g h =
-    search (rules, m.ow, m.wn, m.ww, m.here, g.ox, g.xo, g.xn, g.wx, g.xw, h.ox, h.xo, h.xn,
-    h.wx, h.xw)
+    search (
+      rules,
+      m.ow,
+      m.wn,
+      m.ww,
+      m.here,
+      g.ox,
+      g.xo,
+      g.xn,
+      g.wx,
+      g.xw,
+      h.ox,
+      h.xo,
+      h.xn,
+      h.wx,
+      h.xw,
+    )
 mover_go_two o w x y n false false false false false m g h =
-    search (rules, m.ow, m.wn, m.ww, m.here, g.ox, g.xo, g.xn, g.wx, g.xw, h.ox, h.xo, h.xn,
-    h.wx, h.xw)
+    search (
+      rules,
+      m.ow,
+      m.wn,
+      m.ww,
+      m.here,
+      g.ox,
+      g.xo,
+      g.xn,
+      g.wx,
+      g.xw,
+      h.ox,
+      h.xo,
+      h.xn,
+      h.wx,
+      h.xw,
+    )
 
 spelled_go_two : (o w x y n : List ℕ) (xo xn yo yn : Bool) → same o w ≡ true → same x o ≡ xo
     → same x n ≡ xn → same y o ≡ yo → same y n ≡ yn

@@ -1,13 +1,13 @@
 -- Two changes, each done first at one end: members of channels.
 use Rattle.std.proofs.Common.{◌≡◌, ℕ, Bool, true, false, ◌||◌, ◌&&◌, Option, Some, None, List, refl, sym}
-use Rattle.std.proofs.Common.{◌∙◌, ap, if◌then◌else◌, rules, nat_eq, true≢false}
-use Rattle.std.specs.Option.{option_and_then, option_map_or, option_map}
-use Rattle.irc_names.specs.Fold.{key, same}
+use Rattle.std.proofs.Common.{◌∙◌, ap, if◌then◌else◌, rules, true≢false}
+use Rattle.std.specs.Option.{option_and_then, option_map}
+use Rattle.irc_names.specs.Fold.{same}
 use Rattle.irc_crossing.specs.declared.change.Change.{Change}
 use Rattle.irc_crossing.specs.declared.change.Change.TheVariants.{Come, Rename, Go, Out}
-use Rattle.irc_crossing.specs.Changes.{are_met, behind, both_go, crossed, is_gone, member_now}
-use Rattle.irc_crossing.specs.Changes.{gone_of, nick_now, renamed_now, taken_by}
-use Rattle.irc_crossing.specs.Laws.{AreNames, AreAgreed, BothEndsAgree, IsPossible, MayRename}
+use Rattle.irc_crossing.specs.Changes.{are_met, behind, crossed, is_gone}
+use Rattle.irc_crossing.specs.Changes.{gone_of, nick_now, taken_by}
+use Rattle.irc_crossing.specs.Laws.{AreNames, BothEndsAgree, IsPossible, MayRename}
 use Rattle.irc_crossing.specs.Laws.{member_after, member_behind_both, nick_after, nick_behind_both}
 use Rattle.irc_crossing.proofs.BothEnds.{IsGoer, IsMover, both_nicks_agree, first_same}
 use Rattle.irc_crossing.proofs.BothEnds.{free_of, gone_alike, goer, not_turned, or_turned, same_self}
@@ -293,5 +293,8 @@ module _ (here : List ℕ → Bool) (names : AreNames here) (n : List ℕ) (is :
 pub both_ends_agree : BothEndsAgree
 both_ends_agree here theirs ours names may other two n is =
     let nicks = both_nicks_agree here theirs ours names may other two n is in
-    record { nicks = nicks; members = λ ch. members_agree here names n is ch theirs ours may other
-        nicks }
+    record {
+      nicks = nicks;
+      members = λ ch. members_agree here names n is ch theirs ours may other
+          nicks;
+    }
