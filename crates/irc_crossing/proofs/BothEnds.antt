@@ -7,6 +7,7 @@ use Rattle.irc_names.specs.Fold.{key, same}
 use Rattle.irc_names.specs.FoldLaws.{same-tells}
 use Rattle.irc_crossing.specs.declared.change.Change.{Change}
 use Rattle.irc_crossing.specs.declared.change.Change.TheVariants.{Come, Rename, Go, Out}
+use Rattle.irc_crossing.specs.Changes.{renamed_now}
 use Rattle.irc_crossing.specs.Changes.{crossed, is_gone, member_now}
 use Rattle.irc_crossing.specs.Changes.{gone_of, nick_now, taken_by}
 use Rattle.irc_crossing.specs.Laws.{AreNames, AreOfTwo, IsPossible, MayGo, MayRename, NewcomersAgree}
@@ -243,12 +244,24 @@ none_spelled o w p v n false false false are wv vw on pn =
 
 -- ---- one who takes another nickname, and one or two who go
 
-spelled_go : (o w x n : List ℕ) (xo xn : Bool) → same o w ≡ true → same x o ≡ xo → same x n ≡ xn
-    → nick_behind_both (Rename o w) (Go x None) n ≡ nick_behind_both (Go x None) (Rename o w) n
-spelled_go o w x n true true ow xo xn = search (rules, ow, xo, xn)
-spelled_go o w x n true false ow xo xn = search (rules, ow, xo, xn)
-spelled_go o w x n false true ow xo xn = search (rules, ow, xo, xn)
-spelled_go o w x n false false ow xo xn = search (rules, ow, xo, xn)
+-- where it is another spelling alone, those who go are the same
+spelled_keeps : (o w x : List ℕ) (y : Option (List ℕ)) (n : List ℕ) (gone : Bool)
+    → same o w ≡ true → is_gone x y o ≡ gone
+    → nick_after (crossed (Rename o w) (Go x y)) n ≡ Some n
+spelled_keeps o w x y n true ow is = search (rules, ow, is)
+spelled_keeps o w x y n false ow is = search (rules, ow, is)
+
+spelled_left : (o w x : List ℕ) (y : Option (List ℕ)) (n : List ℕ) → same o w ≡ true
+    → nick_now (Go x y) n ≡ nick_behind_both (Go x y) (Rename o w) n
+spelled_left o w x None n ow = search (rules, ow)
+spelled_left o w x (Some y) n ow = search (rules, ow)
+
+spelled_go : (o w x : List ℕ) (y : Option (List ℕ)) (n : List ℕ) → same o w ≡ true
+    → nick_behind_both (Rename o w) (Go x y) n ≡ nick_behind_both (Go x y) (Rename o w) n
+spelled_go o w x y n ow =
+    same_then (nick_after (crossed (Rename o w) (Go x y)))
+    (λ it. spelled_keeps o w x y it (is_gone x y o) ow refl) (nick_now (Go x y) n)
+    ∙ spelled_left o w x y n ow
 
 -- of somebody who goes: whether it is the one who takes another nickname, and the one at hand
 pub record IsGoer (o w n x : List ℕ) (first at : Bool) : Type 0 where
@@ -264,326 +277,48 @@ pub record IsMover (o w n : List ℕ) (on : Bool) : Type 0 where
   pub ww : same w w ≡ true
   pub here : same o n ≡ on
 
--- with one who goes
-mover_go : (o w x n : List ℕ) (on first at : Bool) → IsMover o w n on → IsGoer o w n x first at
-    → nick_behind_both (Rename o w) (Go x None) n ≡ nick_behind_both (Go x None) (Rename o w) n
-mover_go o w x n true true true m g =
-    search (rules, m.ow, m.wn, m.ww, m.here, g.ox, g.xo, g.xn, g.wx, g.xw)
-mover_go o w x n true true false m g =
-    absurd (true≢false (sym g.ox ∙ first_same o n x m.here ∙ not_turned x n g.xn))
-mover_go o w x n true false true m g =
-    absurd (true≢false (sym (turned x n g.xn) ∙ sym (first_same o n x m.here) ∙ g.ox))
-mover_go o w x n true false false m g =
-    search (rules, m.ow, m.wn, m.ww, m.here, g.ox, g.xo, g.xn, g.wx, g.xw)
-mover_go o w x n false true true m g =
-    absurd (true≢false (sym g.xn ∙ sym (first_same o x n g.ox) ∙ m.here))
-mover_go o w x n false true false m g =
-    search (rules, m.ow, m.wn, m.ww, m.here, g.ox, g.xo, g.xn, g.wx, g.xw)
-mover_go o w x n false false true m g =
-    search (rules, m.ow, m.wn, m.ww, m.here, g.ox, g.xo, g.xn, g.wx, g.xw)
-mover_go o w x n false false false m g =
-    search (rules, m.ow, m.wn, m.ww, m.here, g.ox, g.xo, g.xn, g.wx, g.xw)
+abbrev moved : (w n : List ℕ) → Bool → List ℕ
+moved w n on = if on then w else n
 
--- with two
-mover_go_two : (o w x y n : List ℕ) (on first at second and_at : Bool) → IsMover o w n on
-    → IsGoer o w n x first at → IsGoer o w n y second and_at
-    → nick_behind_both (Rename o w) (Go x (Some y)) n
-    ≡ nick_behind_both (Go x (Some y)) (Rename o w) n
-mover_go_two o w x y n true true true true true m g h =
-    search (
-      rules,
-      m.ow,
-      m.wn,
-      m.ww,
-      m.here,
-      g.ox,
-      g.xo,
-      g.xn,
-      g.wx,
-      g.xw,
-      h.ox,
-      h.xo,
-      h.xn,
-      h.wx,
-      h.xw,
-    )
-mover_go_two o w x y n true true true true false m g h =
-    absurd (true≢false (sym h.ox ∙ first_same o n y m.here ∙ not_turned y n h.xn))
-mover_go_two o w x y n true true true false true m g h =
-    absurd (true≢false (sym (turned y n h.xn) ∙ sym (first_same o n y m.here) ∙ h.ox))
-mover_go_two o w x y n true true true false false m g h =
-    search (
-      rules,
-      m.ow,
-      m.wn,
-      m.ww,
-      m.here,
-      g.ox,
-      g.xo,
-      g.xn,
-      g.wx,
-      g.xw,
-      h.ox,
-      h.xo,
-      h.xn,
-      h.wx,
-      h.xw,
-    )
-mover_go_two o w x y n true true false true true m g h =
-    absurd (true≢false (sym g.ox ∙ first_same o n x m.here ∙ not_turned x n g.xn))
-mover_go_two o w x y n true true false true false m g h =
-    absurd (true≢false (sym g.ox ∙ first_same o n x m.here ∙ not_turned x n g.xn))
-mover_go_two o w x y n true true false false true m g h =
-    absurd (true≢false (sym g.ox ∙ first_same o n x m.here ∙ not_turned x n g.xn))
-mover_go_two o w x y n true true false false false m g h =
-    absurd (true≢false (sym g.ox ∙ first_same o n x m.here ∙ not_turned x n g.xn))
-mover_go_two o w x y n true false true true true m g h =
-    absurd (true≢false (sym (turned x n g.xn) ∙ sym (first_same o n x m.here) ∙ g.ox))
-mover_go_two o w x y n true false true true false m g h =
-    absurd (true≢false (sym (turned x n g.xn) ∙ sym (first_same o n x m.here) ∙ g.ox))
-mover_go_two o w x y n true false true false true m g h =
-    absurd (true≢false (sym (turned x n g.xn) ∙ sym (first_same o n x m.here) ∙ g.ox))
-mover_go_two o w x y n true false true false false m g h =
-    absurd (true≢false (sym (turned x n g.xn) ∙ sym (first_same o n x m.here) ∙ g.ox))
-mover_go_two o w x y n true false false true true m g h =
-    search (
-      rules,
-      m.ow,
-      m.wn,
-      m.ww,
-      m.here,
-      g.ox,
-      g.xo,
-      g.xn,
-      g.wx,
-      g.xw,
-      h.ox,
-      h.xo,
-      h.xn,
-      h.wx,
-      h.xw,
-    )
-mover_go_two o w x y n true false false true false m g h =
-    absurd (true≢false (sym h.ox ∙ first_same o n y m.here ∙ not_turned y n h.xn))
-mover_go_two o w x y n true false false false true m g h =
-    absurd (true≢false (sym (turned y n h.xn) ∙ sym (first_same o n y m.here) ∙ h.ox))
-mover_go_two o w x y n true false false false false m g h =
-    search (
-      rules,
-      m.ow,
-      m.wn,
-      m.ww,
-      m.here,
-      g.ox,
-      g.xo,
-      g.xn,
-      g.wx,
-      g.xw,
-      h.ox,
-      h.xo,
-      h.xn,
-      h.wx,
-      h.xw,
-    )
-mover_go_two o w x y n false true true true true m g h =
-    absurd (true≢false (sym g.xn ∙ sym (first_same o x n g.ox) ∙ m.here))
-mover_go_two o w x y n false true true true false m g h =
-    absurd (true≢false (sym g.xn ∙ sym (first_same o x n g.ox) ∙ m.here))
-mover_go_two o w x y n false true true false true m g h =
-    absurd (true≢false (sym g.xn ∙ sym (first_same o x n g.ox) ∙ m.here))
-mover_go_two o w x y n false true true false false m g h =
-    absurd (true≢false (sym g.xn ∙ sym (first_same o x n g.ox) ∙ m.here))
-mover_go_two o w x y n false true false true true m g h =
-    absurd (true≢false (sym h.xn ∙ sym (first_same o y n h.ox) ∙ m.here))
-mover_go_two o w x y n false true false true false m g h =
-    search (
-      rules,
-      m.ow,
-      m.wn,
-      m.ww,
-      m.here,
-      g.ox,
-      g.xo,
-      g.xn,
-      g.wx,
-      g.xw,
-      h.ox,
-      h.xo,
-      h.xn,
-      h.wx,
-      h.xw,
-    )
-mover_go_two o w x y n false true false false true m g h =
-    search (
-      rules,
-      m.ow,
-      m.wn,
-      m.ww,
-      m.here,
-      g.ox,
-      g.xo,
-      g.xn,
-      g.wx,
-      g.xw,
-      h.ox,
-      h.xo,
-      h.xn,
-      h.wx,
-      h.xw,
-    )
-mover_go_two o w x y n false true false false false m g h =
-    search (
-      rules,
-      m.ow,
-      m.wn,
-      m.ww,
-      m.here,
-      g.ox,
-      g.xo,
-      g.xn,
-      g.wx,
-      g.xw,
-      h.ox,
-      h.xo,
-      h.xn,
-      h.wx,
-      h.xw,
-    )
-mover_go_two o w x y n false false true true true m g h =
-    absurd (true≢false (sym h.xn ∙ sym (first_same o y n h.ox) ∙ m.here))
-mover_go_two o w x y n false false true true false m g h =
-    search (
-      rules,
-      m.ow,
-      m.wn,
-      m.ww,
-      m.here,
-      g.ox,
-      g.xo,
-      g.xn,
-      g.wx,
-      g.xw,
-      h.ox,
-      h.xo,
-      h.xn,
-      h.wx,
-      h.xw,
-    )
-mover_go_two o w x y n false false true false true m g h =
-    search (
-      rules,
-      m.ow,
-      m.wn,
-      m.ww,
-      m.here,
-      g.ox,
-      g.xo,
-      g.xn,
-      g.wx,
-      g.xw,
-      h.ox,
-      h.xo,
-      h.xn,
-      h.wx,
-      h.xw,
-    )
-mover_go_two o w x y n false false true false false m g h =
-    search (
-      rules,
-      m.ow,
-      m.wn,
-      m.ww,
-      m.here,
-      g.ox,
-      g.xo,
-      g.xn,
-      g.wx,
-      g.xw,
-      h.ox,
-      h.xo,
-      h.xn,
-      h.wx,
-      h.xw,
-    )
-mover_go_two o w x y n false false false true true m g h =
-    absurd (true≢false (sym h.xn ∙ sym (first_same o y n h.ox) ∙ m.here))
-mover_go_two o w x y n false false false true false m g h =
-    search (
-      rules,
-      m.ow,
-      m.wn,
-      m.ww,
-      m.here,
-      g.ox,
-      g.xo,
-      g.xn,
-      g.wx,
-      g.xw,
-      h.ox,
-      h.xo,
-      h.xn,
-      h.wx,
-      h.xw,
-    )
-mover_go_two o w x y n false false false false true m g h =
-    search (
-      rules,
-      m.ow,
-      m.wn,
-      m.ww,
-      m.here,
-      g.ox,
-      g.xo,
-      g.xn,
-      g.wx,
-      g.xw,
-      h.ox,
-      h.xo,
-      h.xn,
-      h.wx,
-      h.xw,
-    )
-mover_go_two o w x y n false false false false false m g h =
-    search (
-      rules,
-      m.ow,
-      m.wn,
-      m.ww,
-      m.here,
-      g.ox,
-      g.xo,
-      g.xn,
-      g.wx,
-      g.xw,
-      h.ox,
-      h.xo,
-      h.xn,
-      h.wx,
-      h.xw,
-    )
+renamed_is : (o w n : List ℕ) (on : Bool) → same o w ≡ false → same w n ≡ false → same o n ≡ on
+    → renamed_now o w n ≡ Some (moved w n on)
+renamed_is o w n true ow wn is = search (rules, ow, wn, is)
+renamed_is o w n false ow wn is = search (rules, ow, wn, is)
 
-spelled_go_two : (o w x y n : List ℕ) (xo xn yo yn : Bool) → same o w ≡ true → same x o ≡ xo
-    → same x n ≡ xn → same y o ≡ yo → same y n ≡ yn
-    → nick_behind_both (Rename o w) (Go x (Some y)) n
-    ≡ nick_behind_both (Go x (Some y)) (Rename o w) n
-spelled_go_two o w x y n true true true true ow xo xn yo yn = search (rules, ow, xo, xn, yo, yn)
-spelled_go_two o w x y n true true true false ow xo xn yo yn = search (rules, ow, xo, xn, yo, yn)
-spelled_go_two o w x y n true true false true ow xo xn yo yn = search (rules, ow, xo, xn, yo, yn)
-spelled_go_two o w x y n true true false false ow xo xn yo yn = search (rules, ow, xo, xn, yo, yn)
-spelled_go_two o w x y n true false true true ow xo xn yo yn = search (rules, ow, xo, xn, yo, yn)
-spelled_go_two o w x y n true false true false ow xo xn yo yn = search (rules, ow, xo, xn, yo, yn)
-spelled_go_two o w x y n true false false true ow xo xn yo yn = search (rules, ow, xo, xn, yo, yn)
-spelled_go_two o w x y n true false false false ow xo xn yo yn = search (rules, ow, xo, xn, yo, yn)
-spelled_go_two o w x y n false true true true ow xo xn yo yn = search (rules, ow, xo, xn, yo, yn)
-spelled_go_two o w x y n false true true false ow xo xn yo yn = search (rules, ow, xo, xn, yo, yn)
-spelled_go_two o w x y n false true false true ow xo xn yo yn = search (rules, ow, xo, xn, yo, yn)
-spelled_go_two o w x y n false true false false ow xo xn yo yn = search (rules, ow, xo, xn, yo, yn)
-spelled_go_two o w x y n false false true true ow xo xn yo yn = search (rules, ow, xo, xn, yo, yn)
-spelled_go_two o w x y n false false true false ow xo xn yo yn = search (rules, ow, xo, xn, yo, yn)
-spelled_go_two o w x y n false false false true ow xo xn yo yn = search (rules, ow, xo, xn, yo, yn)
-spelled_go_two o w x y n false false false false ow xo xn yo yn = search (rules, ow, xo, xn, yo, yn)
+-- who goes is the one at hand by the next nicknames if it is by those before
+moved_alike : (o w x n : List ℕ) (on first at : Bool) → IsMover o w n on → IsGoer o w n x first at
+    → same (moved w x first) (moved w n on) ≡ same x n
+moved_alike o w x n true true true m g = m.ww ∙ sym g.xn
+moved_alike o w x n true true false m g =
+    absurd (true≢false (sym g.ox ∙ first_same o n x m.here ∙ not_turned x n g.xn))
+moved_alike o w x n true false true m g =
+    absurd (true≢false (sym (turned x n g.xn) ∙ sym (first_same o n x m.here) ∙ g.ox))
+moved_alike o w x n true false false m g = g.xw ∙ sym g.xn
+moved_alike o w x n false true true m g =
+    absurd (true≢false (sym g.xn ∙ sym (first_same o x n g.ox) ∙ m.here))
+moved_alike o w x n false true false m g = m.wn ∙ sym g.xn
+moved_alike o w x n false false at m g = refl
 
--- ---- those who go
+module _ (o w n : List ℕ) (on : Bool) (m : IsMover o w n on) where
+  -- by the change of the nickname first
+  goer_behind : (x : List ℕ) (first at : Bool) → IsGoer o w n x first at
+      → nick_behind_both (Go x None) (Rename o w) n
+      ≡ (if is_gone x None n then None else Some (moved w n on))
+  goer_behind x first at g =
+      (λ i. option_and_then (nick_after (gone_of (renamed_is o w x first m.ow g.wx g.ox i) None))
+      (renamed_is o w n on m.ow m.wn m.here i))
+      ∙ ap (λ b. if b || false then None else Some (moved w n on))
+      (moved_alike o w x n on first at m g)
+
+  goers_behind : (x y : List ℕ) (first at second and_at : Bool) → IsGoer o w n x first at
+      → IsGoer o w n y second and_at → nick_behind_both (Go x (Some y)) (Rename o w) n
+      ≡ (if is_gone x (Some y) n then None else Some (moved w n on))
+  goers_behind x y first at second and_at g h =
+      (λ i. option_and_then (nick_after (gone_of (renamed_is o w x first m.ow g.wx g.ox i)
+      (renamed_is o w y second m.ow h.wx h.ox i)))
+      (renamed_is o w n on m.ow m.wn m.here i))
+      ∙ (λ i. if moved_alike o w x n on first at m g i || moved_alike o w y n on second and_at m h i
+      then None else Some (moved w n on))
 
 pub gone_alike : (x : List ℕ) (y : Option (List ℕ)) (one other : List ℕ) → same one other ≡ true
     → is_gone x y one ≡ is_gone x y other
@@ -591,6 +326,23 @@ gone_alike x y one other is =
     ap (λ folds. pointwise nat_eq (key x) folds
     || option_map_or (λ it. pointwise nat_eq (key it) folds) y false)
     ((same-tells one other).0 is)
+
+-- by those first who go
+mover_behind : (o w x : List ℕ) (y : Option (List ℕ)) (n : List ℕ) (on gone first : Bool)
+    → IsMover o w n on → is_gone x y n ≡ gone → is_gone x y o ≡ first
+    → nick_behind_both (Rename o w) (Go x y) n
+    ≡ (if is_gone x y n then None else Some (moved w n on))
+mover_behind o w x y n on true first m at and_at = search (rules, at)
+mover_behind o w x y n true false true m at and_at =
+    absurd (true≢false (sym and_at ∙ gone_alike x y o n m.here ∙ at))
+mover_behind o w x y n true false false m at and_at =
+    search (rules, m.ow, m.wn, m.here, at, and_at)
+mover_behind o w x y n false false true m at and_at =
+    search (rules, m.ow, m.wn, m.here, at, and_at)
+mover_behind o w x y n false false false m at and_at =
+    search (rules, m.ow, m.wn, m.here, at, and_at)
+
+-- ---- those who go
 
 module _ (p : List ℕ) (q : Option (List ℕ)) (n : List ℕ) where
   abbrev theirs_then : Option Change → Option (List ℕ)
@@ -747,7 +499,7 @@ module _ (here : List ℕ → Bool) (names : AreNames here) where
 
     rename_go_agree : (o w x : List ℕ) (y : Option (List ℕ)) → MayRename here o w
         → MayGo here x y → Agree (Rename o w) (Go x y)
-    rename_go_agree o w x y may go = by y go (same o w) refl
+    rename_go_agree o w x y may go = by (same o w) refl
       where
         mover : same o w ≡ false → IsMover o w n (same o n)
         mover ow = record {
@@ -757,17 +509,20 @@ module _ (here : List ℕ → Bool) (names : AreNames here) where
           here = refl;
         }
 
-        by : (y : Option (List ℕ)) → MayGo here x y → (b : Bool) → same o w ≡ b
-            → Agree (Rename o w) (Go x y)
-        by None go true ow = spelled_go o w x n (same x o) (same x n) ow refl refl
-        by None go false ow = mover_go o w x n (same o n) (same o x) (same x n) (mover ow)
+        both : (y : Option (List ℕ)) → MayGo here x y → (ow : same o w ≡ false)
+            → nick_behind_both (Go x y) (Rename o w) n
+            ≡ (if is_gone x y n then None else Some (moved w n (same o n)))
+        both None go ow = goer_behind o w n (same o n) (mover ow) x (same o x) (same x n)
             (goer o w x (may.free ow) go.one)
-        by (Some y) go true ow =
-            spelled_go_two o w x y n (same x o) (same x n) (same y o) (same y n) ow refl refl refl
-            refl
-        by (Some y) go false ow =
-            mover_go_two o w x y n (same o n) (same o x) (same x n) (same o y) (same y n)
-            (mover ow) (goer o w x (may.free ow) go.one) (goer o w y (may.free ow) go.second)
+        both (Some y) go ow =
+            goers_behind o w n (same o n) (mover ow) x y (same o x) (same x n) (same o y) (same y n)
+            (goer o w x (may.free ow) go.one) (goer o w y (may.free ow) go.second)
+
+        by : (b : Bool) → same o w ≡ b → Agree (Rename o w) (Go x y)
+        by true ow = spelled_go o w x y n ow
+        by false ow =
+            mover_behind o w x y n (same o n) (is_gone x y n) (is_gone x y o) (mover ow) refl refl
+            ∙ sym (both y go ow)
 
 pub both_nicks_agree : (here : List ℕ → Bool) (theirs ours : Change) → AreNames here
     → IsPossible here theirs → IsPossible here ours → AreOfTwo theirs ours
