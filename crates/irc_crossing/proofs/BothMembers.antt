@@ -5,6 +5,7 @@ use Rattle.std.specs.Option.{option_and_then, option_map}
 use Rattle.irc_names.specs.Fold.{same}
 use Rattle.irc_crossing.specs.declared.change.Change.{Change}
 use Rattle.irc_crossing.specs.declared.change.Change.TheVariants.{Come, Rename, Go, Out}
+use Rattle.irc_crossing.specs.Changes.{member_now}
 use Rattle.irc_crossing.specs.Changes.{are_met, behind, crossed, is_gone}
 use Rattle.irc_crossing.specs.Changes.{gone_of, nick_now, taken_by}
 use Rattle.irc_crossing.specs.Laws.{AreNames, BothEndsAgree, IsPossible, MayRename}
@@ -106,73 +107,27 @@ out_rename u c o w ch n false false false true m g at =
 out_rename u c o w ch n false false false false m g at =
     search (rules, m.ow, m.wn, m.ww, m.here, g.ox, g.xo, g.xn, g.wx, g.xw, at)
 
-out_go : (u c x : List ℕ) (y : Option (List ℕ)) (ch n : List ℕ) (gone first un cc : Bool)
-    → is_gone x y n ≡ gone → is_gone x y u ≡ first → same u n ≡ un → same c ch ≡ cc
-    → member_behind_both (Out u c) (Go x y) ch n ≡ member_behind_both (Go x y) (Out u c) ch n
-out_go u c x None ch n true true true true at and_at is in_it =
-    search (rules, at, and_at, is, in_it)
-out_go u c x None ch n true true true false at and_at is in_it =
-    search (rules, at, and_at, is, in_it)
-out_go u c x None ch n true true false true at and_at is in_it =
-    search (rules, at, and_at, is, in_it)
-out_go u c x None ch n true true false false at and_at is in_it =
-    search (rules, at, and_at, is, in_it)
-out_go u c x None ch n true false true true at and_at is in_it =
-    absurd (true≢false (sym at ∙ sym (gone_alike x None u n is) ∙ and_at))
-out_go u c x None ch n true false true false at and_at is in_it =
-    absurd (true≢false (sym at ∙ sym (gone_alike x None u n is) ∙ and_at))
-out_go u c x None ch n true false false true at and_at is in_it =
-    search (rules, at, and_at, is, in_it)
-out_go u c x None ch n true false false false at and_at is in_it =
-    search (rules, at, and_at, is, in_it)
-out_go u c x None ch n false true true true at and_at is in_it =
-    absurd (true≢false (sym and_at ∙ gone_alike x None u n is ∙ at))
-out_go u c x None ch n false true true false at and_at is in_it =
-    absurd (true≢false (sym and_at ∙ gone_alike x None u n is ∙ at))
-out_go u c x None ch n false true false true at and_at is in_it =
-    search (rules, at, and_at, is, in_it)
-out_go u c x None ch n false true false false at and_at is in_it =
-    search (rules, at, and_at, is, in_it)
-out_go u c x None ch n false false true true at and_at is in_it =
-    search (rules, at, and_at, is, in_it)
-out_go u c x None ch n false false true false at and_at is in_it =
-    search (rules, at, and_at, is, in_it)
-out_go u c x None ch n false false false true at and_at is in_it =
-    search (rules, at, and_at, is, in_it)
-out_go u c x None ch n false false false false at and_at is in_it =
-    search (rules, at, and_at, is, in_it)
-out_go u c x (Some y) ch n true true true true at and_at is in_it =
-    search (rules, at, and_at, is, in_it)
-out_go u c x (Some y) ch n true true true false at and_at is in_it =
-    search (rules, at, and_at, is, in_it)
-out_go u c x (Some y) ch n true true false true at and_at is in_it =
-    search (rules, at, and_at, is, in_it)
-out_go u c x (Some y) ch n true true false false at and_at is in_it =
-    search (rules, at, and_at, is, in_it)
-out_go u c x (Some y) ch n true false true true at and_at is in_it =
-    absurd (true≢false (sym at ∙ sym (gone_alike x (Some y) u n is) ∙ and_at))
-out_go u c x (Some y) ch n true false true false at and_at is in_it =
-    absurd (true≢false (sym at ∙ sym (gone_alike x (Some y) u n is) ∙ and_at))
-out_go u c x (Some y) ch n true false false true at and_at is in_it =
-    search (rules, at, and_at, is, in_it)
-out_go u c x (Some y) ch n true false false false at and_at is in_it =
-    search (rules, at, and_at, is, in_it)
-out_go u c x (Some y) ch n false true true true at and_at is in_it =
-    absurd (true≢false (sym and_at ∙ gone_alike x (Some y) u n is ∙ at))
-out_go u c x (Some y) ch n false true true false at and_at is in_it =
-    absurd (true≢false (sym and_at ∙ gone_alike x (Some y) u n is ∙ at))
-out_go u c x (Some y) ch n false true false true at and_at is in_it =
-    search (rules, at, and_at, is, in_it)
-out_go u c x (Some y) ch n false true false false at and_at is in_it =
-    search (rules, at, and_at, is, in_it)
-out_go u c x (Some y) ch n false false true true at and_at is in_it =
-    search (rules, at, and_at, is, in_it)
-out_go u c x (Some y) ch n false false true false at and_at is in_it =
-    search (rules, at, and_at, is, in_it)
-out_go u c x (Some y) ch n false false false true at and_at is in_it =
-    search (rules, at, and_at, is, in_it)
-out_go u c x (Some y) ch n false false false false at and_at is in_it =
-    search (rules, at, and_at, is, in_it)
+who_goes_stays : (u c x : List ℕ) (y : Option (List ℕ))
+    → crossed (Go x y) (Out u c) ≡ Some (Go x y)
+who_goes_stays u c x None = refl
+who_goes_stays u c x (Some y) = refl
+
+module _ (u c x : List ℕ) (y : Option (List ℕ)) (ch n : List ℕ) where
+  abbrev out_first : (left : Option Change) → Option (List ℕ)
+  out_first left = option_and_then (member_after left ch) (member_now (Out u c) ch n)
+
+  out_go : (gone first un within : Bool) → is_gone x y n ≡ gone → is_gone x y u ≡ first
+      → same u n ≡ un → same c ch ≡ within
+      → member_behind_both (Out u c) (Go x y) ch n ≡ out_first (Some (Go x y))
+  out_go true first true true at and_at is in_it = search (rules, at, is, in_it)
+  out_go true first true false at and_at is in_it = search (rules, at, is, in_it)
+  out_go true first false within at and_at is in_it = search (rules, at, is)
+  out_go false true true within at and_at is in_it =
+      absurd (true≢false (sym and_at ∙ gone_alike x y u n is ∙ at))
+  out_go false true false within at and_at is in_it = search (rules, at, and_at, is)
+  out_go false false true true at and_at is in_it = search (rules, at, and_at, is, in_it)
+  out_go false false true false at and_at is in_it = search (rules, at, and_at, is, in_it)
+  out_go false false false within at and_at is in_it = search (rules, at, and_at, is)
 
 -- ---- two who are out of a channel
 
@@ -251,7 +206,7 @@ module _ (here : List ℕ → Bool) (names : AreNames here) (n : List ℕ) (is :
 
   out_go_agree : (u c x : List ℕ) (y : Option (List ℕ)) → Agree (Out u c) (Go x y)
   out_go_agree u c x y = out_go u c x y ch n (is_gone x y n) (is_gone x y u) (same u n) (same c ch)
-      refl refl refl refl
+      refl refl refl refl ∙ ap (out_first u c x y ch n) (sym (who_goes_stays u c x y))
 
   members_agree : (theirs ours : Change) → IsPossible here theirs → IsPossible here ours
       → nick_behind_both theirs ours n ≡ nick_behind_both ours theirs n → Agree theirs ours
