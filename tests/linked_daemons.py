@@ -750,7 +750,7 @@ def waiting(program):
                     taken.append(network.keep(door.accept()[0]))
                 else:
                     greeting += one.recv(65536)
-        return told("waiting", took < 1 and longest < 0.2 and is_under_way and greeting.startswith(b"PASS pw 0210010001 TREE|\r\nSERVER b.net 1 1 :"),
+        return told("waiting", took < 1 and longest < 0.2 and is_under_way and greeting.startswith(b"PASS pw 0210010001 TREE| exact1\r\nSERVER b.net 1 1 :"),
                     f"ready in {took * 1000:.0f} ms, and answers within {longest * 1000:.1f} ms while its call is under way; the call that is taken at last greets")
 
 

@@ -1,3 +1,5 @@
+mod BothEnds
+mod BothMembers
 mod Counting
 mod Examples
 mod Following

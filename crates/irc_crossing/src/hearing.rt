@@ -77,12 +77,7 @@ impl Log {
     }
 
     /// Hears that a user comes, or takes another nickname.
-    fn hear_nick(
-        &mut self,
-        message: &Message<'_>,
-        change: Option<Change>,
-        is_held: bool,
-    ) -> Given
+    fn hear_nick(&mut self, message: &Message<'_>, change: Option<Change>, is_held: bool) -> Given
         ensures given { result ≡ option_map_or
             (λ change. nick_given is_held (parsed message.now) (through (Some change) self.old))
             change AsItCame }

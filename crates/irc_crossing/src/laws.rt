@@ -6,8 +6,8 @@ ghost use Rattle.irc_crossing.specs.Examples.{KickIsFollowed, KickIsLeftOut, Kil
 ghost use Rattle.irc_crossing.specs.Examples.{KilledIsFollowed, LetterIsLeftOut, MetGoes};
 ghost use Rattle.irc_crossing.specs.Examples.{MetIsGiven, MetIsKilled, ModeIsLeftOut};
 ghost use Rattle.irc_crossing.specs.Examples.{NextIsSpared, PartIsLeftOut, TextIsLeftOut};
-ghost use Rattle.irc_crossing.specs.Laws.{ComersAreOthers, NamesAreFollowed, NothingIsChanged};
-ghost use Rattle.irc_crossing.specs.Laws.{NothingIsLogged, TakersAreOthers, TwoToOneNameGo};
+ghost use Rattle.irc_crossing.specs.Laws.{BothEndsAgree, ComersAreOthers, NamesAreFollowed, NothingIsChanged};
+ghost use Rattle.irc_crossing.specs.Laws.{NewcomersAgree, NothingIsLogged, TakersAreOthers, TwoToOneNameGo};
 ghost use Rattle.irc_crossing.specs.Laws.{WhoIsGoneIsLeftOut};
 
 /// Where nothing has crossed, a line is given as it came, and the log stays empty.
@@ -32,6 +32,13 @@ pub fn who_is_gone_is_left_out()
 /// Where two take one nickname, each at another end, both are gone behind both changes.
 pub fn two_to_one_name_go()
     ensures { TwoToOneNameGo }
+{}
+
+/// Where each end does its own change, and then what becomes of the other's, whoever was there has
+/// one nickname at both ends then, or is gone at both; and so is who comes by one of them.
+pub fn both_ends_agree()
+    ensures here { BothEndsAgree }
+    ensures newcomers { NewcomersAgree }
 {}
 
 /// Lines that cross one of this end's.

@@ -58,6 +58,13 @@ impl Log {
         self.len() == 0
     }
 
+    /// Nothing is in it any more.
+    pub fn clear(&mut self)
+        ensures { self.new ≡ [] }
+    {
+        self.entries.clear();
+    }
+
     /// A piece is put out, which changes this, if anything.
     ///
     /// # Errors

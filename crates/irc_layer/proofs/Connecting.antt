@@ -1,8 +1,7 @@
 -- Who is connected to the server of a layer.
-use Rattle.std.proofs.Common.{◌≡◌, ℕ, Bool, true, false, not, ◌&&◌, ◌||◌, nat_eq, Option, Some}
+use Rattle.std.proofs.Common.{◌≡◌, ℕ, Bool, true, false, not, ◌&&◌, ◌||◌, Option, Some}
 use Rattle.std.proofs.Common.{List, [], ◌∷◌, ◌++◌, refl, sym, ◌∙◌, ap, append_assoc, append-nil}
 use Rattle.std.proofs.Common.{subst, OnOk, Result, Ok, Err}
-use Rattle.std.specs.List.{list_any}
 use Rattle.std.proofs.lemmas.List.Folds.{list_any-append}
 use Rattle.arrayvec.specs.ArrayVec.{ArrayVec}
 use Rattle.irc_batch.specs.declared.close_reason.CloseReason.{CloseReason}
@@ -215,7 +214,7 @@ connected_put event arrival ends server after outs before end by is = record {
         was.0,
         was.1,
         put_by event arrival ends was.0 behind outs
-        (subst (λ x. AreConnectedBy was.0 (read_event_of event) x behind) (sym by.after_is) was.2),
+            (subst (λ x. AreConnectedBy was.0 (read_event_of event) x behind) (sym by.after_is) was.2),
       );
 }
 

@@ -1,5 +1,5 @@
 -- What is at a place of a batch, and what follows it.
-use Rattle.std.proofs.Common.{◌≡◌, ◌<◌, ◌+◌, ◌++◌, ℕ, List, [], ◌∷◌, Option, Some, None, drop}
+use Rattle.std.proofs.Common.{◌≡◌, ◌<◌, ◌+◌, ◌++◌, ℕ, List, ◌∷◌, Option, Some, None, drop}
 use Rattle.std.proofs.Common.{length, ◌∙◌, ap, arith, get_or, suc, sym, append_assoc}
 use Rattle.std.specs.Prelude.{OnOk}
 use Rattle.std.specs.declared.result.Result.{Result}

@@ -1,6 +1,6 @@
 -- Lines of a piece, one after another.
-use Rattle.std.proofs.Common.{◌≡◌, ℕ, Option, Some, None, List, [], ◌∷◌, ◌++◌, refl, sym, ◌∙◌, ap}
-use Rattle.std.proofs.Common.{append_assoc, subst, Bool, true, false, Result, Ok, Err, IfErr, OnOk}
+use Rattle.std.proofs.Common.{◌≡◌, ℕ, Option, None, List, [], ◌∷◌, refl, sym, ap}
+use Rattle.std.proofs.Common.{subst, Bool, true, false, Result, Ok, Err, IfErr, OnOk}
 use Rattle.std.proofs.Common.{IsErrAnd}
 use Rattle.irc_server.specs.declared.event.Event.{Event}
 use Rattle.irc_server.specs.declared.event.ServerFault.{ServerFault}

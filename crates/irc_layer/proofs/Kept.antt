@@ -1,6 +1,6 @@
 -- What a layer puts out closes just whom its server closes: what it adds is lines on links.
 use Rattle.std.proofs.Common.{◌≡◌, ℕ, Bool, true, false, ◌||◌, Option, Some, None, List, [], ◌∷◌}
-use Rattle.std.proofs.Common.{◌++◌, refl, sym, ◌∙◌, ap, nat_eq, if◌then◌else◌}
+use Rattle.std.proofs.Common.{refl, sym, ◌∙◌, ap, nat_eq, if◌then◌else◌}
 use Rattle.std.specs.List.{list_any}
 use Rattle.std.proofs.lemmas.List.Folds.{list_any-append}
 use Rattle.irc_batch.specs.Batches.{Sent, end_of, end_of_link, line_on, line_to}
@@ -21,69 +21,69 @@ or_false false = refl
 
 -- of a test that no line on a link passes
 module _ (test : Sent → Bool) (none : (link : ℕ) (line : List ℕ) → test (line_on link line) ≡ false)
-    where
-  abbrev one_fails : (link : ℕ) (line : List ℕ)
-      → list_any test (line_on link line ∷ []) ≡ false
-  one_fails link line = ap (λ b. b || false) (none link line)
+  where
+    abbrev one_fails : (link : ℕ) (line : List ℕ)
+        → list_any test (line_on link line ∷ []) ≡ false
+    one_fails link line = ap (λ b. b || false) (none link line)
 
-  pub count_fails : (link : ℕ) (count : Option Count)
-      → list_any test (count_out link count) ≡ false
-  count_fails link None = refl
-  count_fails link (Some count) = one_fails link _
+    pub count_fails : (link : ℕ) (count : Option Count)
+        → list_any test (count_out link count) ≡ false
+    count_fails link None = refl
+    count_fails link (Some count) = one_fails link _
 
-  pub count_at_fails : (link : ℕ) (end : Option End) → list_any test (count_at link end) ≡ false
-  count_at_fails link None = refl
-  count_at_fails link (Some end) = count_fails link _
+    pub count_at_fails : (link : ℕ) (end : Option End) → list_any test (count_at link end) ≡ false
+    count_at_fails link None = refl
+    count_at_fails link (Some end) = count_fails link _
 
-  unless_fails : (is : Bool) (outs : List Sent) → list_any test outs ≡ false
-      → list_any test (if is then [] else outs) ≡ false
-  unless_fails true outs fails = refl
-  unless_fails false outs fails = fails
+    unless_fails : (is : Bool) (outs : List Sent) → list_any test outs ≡ false
+        → list_any test (if is then [] else outs) ≡ false
+    unless_fails true outs fails = refl
+    unless_fails false outs fails = fails
 
-  if_fails : (is : Bool) (outs : List Sent) → list_any test outs ≡ false
-      → list_any test (if is then outs else []) ≡ false
-  if_fails true outs fails = fails
-  if_fails false outs fails = refl
+    if_fails : (is : Bool) (outs : List Sent) → list_any test outs ≡ false
+        → list_any test (if is then outs else []) ≡ false
+    if_fails true outs fails = fails
+    if_fails false outs fails = refl
 
-  piece_fails : (link lines : ℕ) (line : List ℕ) (end : End)
-      → list_any test (piece_out link lines line end) ≡ false
-  piece_fails link lines line end =
-      list_any-append test (count_before link lines end) (line_on link line ∷ [])
-      ∙ ap (λ b. b || list_any test (line_on link line ∷ []))
-      (if_fails (nat_eq end.left 0)
-      (count_out link (count_for lines None end.link.pieces.counts))
-      (count_fails link (count_for lines None end.link.pieces.counts)))
-      ∙ one_fails link line
+    piece_fails : (link lines : ℕ) (line : List ℕ) (end : End)
+        → list_any test (piece_out link lines line end) ≡ false
+    piece_fails link lines line end =
+        list_any-append test (count_before link lines end) (line_on link line ∷ [])
+        ∙ ap (λ b. b || list_any test (line_on link line ∷ []))
+        (if_fails (nat_eq end.left 0)
+        (count_out link (count_for lines None end.link.pieces.counts))
+        (count_fails link (count_for lines None end.link.pieces.counts)))
+        ∙ one_fails link line
 
-  out_fails : (way : WayOut) (arrival : Option ℕ) (link lines : ℕ) (line : List ℕ) (end : End)
-      → list_any test (out_by way arrival link lines line end) ≡ false
-  out_fails Plain arrival link lines line end = one_fails link line
-  out_fails WithWord arrival link lines line end = one_fails link _
-  out_fails InPiece arrival link lines line end =
-      unless_fails (is_echo arrival link (body line)) (piece_out link lines line end)
-      (piece_fails link lines line end)
+    out_fails : (way : WayOut) (arrival : Option ℕ) (link lines : ℕ) (line : List ℕ) (end : End)
+        → list_any test (out_by way arrival link lines line end) ≡ false
+    out_fails Plain arrival link lines line end = one_fails link line
+    out_fails WithWord arrival link lines line end = one_fails link _
+    out_fails InPiece arrival link lines line end =
+        unless_fails (is_echo arrival link (body line)) (piece_out link lines line end)
+        (piece_fails link lines line end)
 
-  line_fails : (arrival : Option ℕ) (link lines : ℕ) (line : List ℕ) (end : Option End)
-      → list_any test (line_put arrival link lines line end) ≡ false
-  line_fails arrival link lines line None = one_fails link line
-  line_fails arrival link lines line (Some end) =
-      out_fails (way_out end.link) arrival link lines line (with_line_out end)
+    line_fails : (arrival : Option ℕ) (link lines : ℕ) (line : List ℕ) (end : Option End)
+        → list_any test (line_put arrival link lines line end) ≡ false
+    line_fails arrival link lines line None = one_fails link line
+    line_fails arrival link lines line (Some end) =
+        out_fails (way_out end.link) arrival link lines line (with_line_out end)
 
-  one_kept : (arrival : Option ℕ) (sent : Sent) (outs : List Sent) (ends : Ends)
-      → list_any test (one_put arrival sent outs ends) ≡ test sent
-  one_kept arrival (line_on link line) outs ends =
-      line_fails arrival link (piece_lines link line outs) line (ends link)
-      ∙ sym (none link line)
-  one_kept arrival (line_to conn line) outs ends = sym (or_false (test (line_to conn line)))
-  one_kept arrival (end_of conn) outs ends = sym (or_false (test (end_of conn)))
-  one_kept arrival (end_of_link link reason) outs ends =
-      sym (or_false (test (end_of_link link reason)))
+    one_kept : (arrival : Option ℕ) (sent : Sent) (outs : List Sent) (ends : Ends)
+        → list_any test (one_put arrival sent outs ends) ≡ test sent
+    one_kept arrival (line_on link line) outs ends =
+        line_fails arrival link (piece_lines link line outs) line (ends link)
+        ∙ sym (none link line)
+    one_kept arrival (line_to conn line) outs ends = sym (or_false (test (line_to conn line)))
+    one_kept arrival (end_of conn) outs ends = sym (or_false (test (end_of conn)))
+    one_kept arrival (end_of_link link reason) outs ends =
+        sym (or_false (test (end_of_link link reason)))
 
-  pub all_kept : (arrival : Option ℕ) (outs : List Sent) (ends : Ends)
-      → list_any test (all_put arrival outs ends) ≡ list_any test outs
-  all_kept arrival [] ends = refl
-  all_kept arrival (sent ∷ outs) ends =
-      list_any-append test (one_put arrival sent outs ends)
-      (all_put arrival outs (ends_behind arrival sent outs ends))
-      ∙ (λ i. one_kept arrival sent outs ends i
-      || all_kept arrival outs (ends_behind arrival sent outs ends) i)
+    pub all_kept : (arrival : Option ℕ) (outs : List Sent) (ends : Ends)
+        → list_any test (all_put arrival outs ends) ≡ list_any test outs
+    all_kept arrival [] ends = refl
+    all_kept arrival (sent ∷ outs) ends =
+        list_any-append test (one_put arrival sent outs ends)
+        (all_put arrival outs (ends_behind arrival sent outs ends))
+        ∙ (λ i. one_kept arrival sent outs ends i
+        || all_kept arrival outs (ends_behind arrival sent outs ends) i)

@@ -1,21 +1,21 @@
 -- The server of a layer is given an event.
 use Rattle.std.proofs.Common.{◌≡◌, ℕ, Bool, true, false, Option, Some, None, Result, Ok, Err}
-use Rattle.std.proofs.Common.{append-nil, is_some, IfErr, IsErrAnd, List, [], ◌∷◌, ◌++◌, refl, sym, ◌∙◌, ap, subst}
+use Rattle.std.proofs.Common.{append-nil, is_some, IfErr, IsErrAnd, List, [], ◌++◌, refl, sym, ◌∙◌, ap, subst}
 use Rattle.std.specs.FinMap.{get}
 use Rattle.irc_batch.specs.declared.close_reason.CloseReason.{CloseReason}
-use Rattle.irc_batch.specs.Batches.{Sent, end_of_link}
+use Rattle.irc_batch.specs.Batches.{Sent}
 use Rattle.irc_stage.specs.View.{View, End}
 use Rattle.irc_server.specs.declared.event.Event.{Event}
 use Rattle.irc_server.specs.declared.event.Event.TheVariants.{LinkLine, LinkDown}
 use Rattle.irc_server.specs.declared.event.ServerFault.{ServerFault}
 use Rattle.irc_server.specs.declared.event.ServerFault.TheVariants.{Memory}
 use Rattle.irc_server.specs.Connected.{has_link}
-use Rattle.irc_server.specs.ReadEvents.{IsHandled, has_failed, refuses_it, takes_it, wants_memory}
-use Rattle.irc_server.specs.Served.{fault_of, no_link}
-use Rattle.irc_engine.specs.Machines.{is_out_of_memory, runs_out_now, IsConnectedBy, IsRefusal}
+use Rattle.irc_server.specs.ReadEvents.{IsHandled, takes_it}
+use Rattle.irc_server.specs.Served.{no_link}
+use Rattle.irc_engine.specs.Machines.{runs_out_now, IsConnectedBy, IsRefusal}
 use Rattle.irc_engine.specs.Machines.{IsStillConnected}
 use Rattle.irc_layer.specs.Ends.{ends_followed, Ends}
-use Rattle.irc_layer.specs.Layers.{closing, IsConnectedIf, IsRefusedBy, Passes, PassesOrNot, State}
+use Rattle.irc_layer.specs.Layers.{closing, IsConnectedIf, Passes, PassesOrNot, State}
 use Rattle.irc_layer.specs.Putting.{all_put, ends_behind_all}
 use Rattle.irc_layer.proofs.Connecting.{connected_put, nobody_goes, still_by_line, still_shut}
 use Rattle.arrayvec.specs.ArrayVec.{ArrayVec}

@@ -13,7 +13,8 @@
 -- Not put out is one kind of line: a KILL on the link by which the NICK came that it answers. The
 -- other end finds the two users with one nickname as it reads this one's NICK.
 use Rattle.std.specs.Prelude.{ℕ, suc, ◌-◌, Bool, false, ◌&&◌, Option, Some, None, Result, Ok, Err}
-use Rattle.std.specs.Prelude.{List, [], ◌∷◌, ◌++◌, codes, length, take, min, nat_eq, if◌then◌else◌}
+use Rattle.std.specs.Prelude.{List, [], ◌∷◌, ◌++◌, codes, length, take, min, nat_eq}
+use Rattle.std.specs.Prelude.{nat_le, if◌then◌else◌}
 use Rattle.std.specs.Option.{option_map_or}
 use Rattle.irc_line.specs.declared.reading.LineFault.{LineFault}
 use Rattle.irc_line.specs.Messages.{Parsed, text}
@@ -29,6 +30,7 @@ use Rattle.irc_link_end.specs.declared.greeting.WayOut.TheVariants.{Plain, WithW
 use Rattle.irc_link_words.specs.Words.{is_command}
 use Rattle.irc_crossing.specs.Hearing.{change_told}
 use Rattle.irc_crossing.specs.Lines.{is_kill_line}
+use Rattle.irc_crossing.specs.declared.log.Entry.{Entry}
 use Rattle.irc_crossing.specs.Logs.{put_out}
 use Rattle.irc_layer.specs.declared.end.End.{End}
 use Rattle.irc_layer.specs.declared.putting.NextLine.{NextLine}
@@ -98,11 +100,16 @@ with_begun lines end =
 abbrev pub piece_out : ℕ → ℕ → List ℕ → End → List Sent
 piece_out link lines line end = count_before link lines end ++ line_on link line ∷ []
 
+-- A log that is full begins anew: so a peer that never counts costs no more, and lines that come
+-- then are given as they came.
+abbrev pub with_room : List Entry → List Entry
+with_room log = if nat_le 1048576 (length log) then [] else log
+
 -- a line of it is in the log from now on, by the number of its piece
 abbrev pub with_logged : List ℕ → End → End
 with_logged line end = record end {
   left = end.left - 1;
-  log = put_out end.link.pieces.counts.sent (change_told (body line)) end.log;
+  log = put_out end.link.pieces.counts.sent (change_told (body line)) (with_room end.log);
 }
 
 abbrev pub behind_piece : ℕ → List ℕ → End → End

@@ -8,7 +8,7 @@ ghost use Rattle.irc_link_end.specs.LinkEnds.{heard_at};
 ghost use Rattle.irc_layer.specs.Ends.{end_hearing, is_plain, met_if, new_end, with_log_after};
 ghost use Rattle.irc_layer.specs.Putting.{behind_line, behind_piece, body, count_at, count_before};
 ghost use Rattle.irc_layer.specs.Putting.{count_out, is_echo, is_kill_read, is_squit, line_out};
-ghost use Rattle.irc_layer.specs.Putting.{piece_out, with_begun, with_count_out};
+ghost use Rattle.irc_layer.specs.Putting.{piece_out, with_begun, with_count_out, with_room};
 
 use irc_batch::Batch;
 use irc_crossing::{Given, Log, change_told};
@@ -18,6 +18,10 @@ use irc_link_words::is_command;
 use irc_names::{ServerName, same};
 use irc_pieces::{Count, Heard, count_text};
 use std::alloc::{AllocError, Global};
+
+/// How many changes a log holds (our own choice): more than are on their way between two daemons,
+/// by the room that kernels and outboxes have.
+const MOST_CHANGES: usize = 1_048_576;
 
 /// One end of a link.
 #[derive(Drop)]
@@ -119,8 +123,18 @@ impl End {
     {
         self.begin(to, out)?;
         self.left = self.left.saturating_sub(1);
+        self.make_room();
         self.log.put_out(self.link.sent(), change_told(body(line)))?;
         out.put_on(to.link, line)
+    }
+
+    /// A log that is full begins anew.
+    fn make_room(&mut self)
+        ensures { self.new ≡ record self.old { log = with_room self.old.log } }
+    {
+        if self.log.len() >= MOST_CHANGES {
+            self.log.clear();
+        }
     }
 
     /// A piece begins, unless one has begun.

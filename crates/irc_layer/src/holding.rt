@@ -15,8 +15,7 @@ pub(crate) fn is_held(server: &Server, link: u64, line: &[u8]) -> bool
 {
     match parse(line) {
         Ok(message) => {
-            is_command(b"NICK", message.command)
-                && is_held_at(server, link, first_word(&message))
+            is_command(b"NICK", message.command) && is_held_at(server, link, first_word(&message))
         }
         Err(_) => false,
     }

@@ -119,7 +119,7 @@ impl Layer {
     }
 
     /// A line of a link has come.
-    fn hear(&mut self, link: u64, line: &Line, out: &mut Batch) -> Result<(), AllocError> 
+    fn hear(&mut self, link: u64, line: &Line, out: &mut Batch) -> Result<(), AllocError>
         ensures heard { OnOk result
             (HearsIf (end_at self.old.ends link) link line.now.items (state_of self.old out.old) (state_of self.new out.new)) }
         ensures connected { OnOk result (IsStillConnected self.old.server out.old.outs
@@ -136,7 +136,7 @@ impl Layer {
     }
 
     /// A link is closed, and the server is told that it is lost.
-    fn shut(&mut self, link: u64, reason: CloseReason, out: &mut Batch) -> Result<(), AllocError> 
+    fn shut(&mut self, link: u64, reason: CloseReason, out: &mut Batch) -> Result<(), AllocError>
         ensures heard { OnOk result
             (Shuts link reason (state_of self.old out.old) (state_of self.new out.new)) }
         ensures connected { OnOk result (IsStillConnected self.old.server out.old.outs
@@ -154,7 +154,7 @@ impl Layer {
         link: u64,
         lines: Vec<Line, Global>,
         out: &mut Batch,
-    ) -> Result<(), AllocError> 
+    ) -> Result<(), AllocError>
         ensures heard { OnOk result
             (HearsAll link (lines_of lines.items) (state_of self.old out.old) (state_of self.new out.new)) }
         ensures connected { OnOk result (IsStillConnected self.old.server out.old.outs
@@ -168,7 +168,7 @@ impl Layer {
     }
 
     /// A line of a piece has come. Where the link was closed before it, it is left out.
-    fn hear_one(&mut self, link: u64, line: Line, out: &mut Batch) -> Result<(), AllocError> 
+    fn hear_one(&mut self, link: u64, line: Line, out: &mut Batch) -> Result<(), AllocError>
         ensures heard { OnOk result
             (HearsOne link line.items (state_of self.old out.old) (state_of self.new out.new)) }
         ensures connected { OnOk result (IsStillConnected self.old.server out.old.outs
@@ -185,7 +185,7 @@ impl Layer {
     }
 
     /// The server is given a line.
-    fn give(&mut self, link: u64, line: Line, out: &mut Batch) -> Result<(), AllocError> 
+    fn give(&mut self, link: u64, line: Line, out: &mut Batch) -> Result<(), AllocError>
         ensures heard { OnOk result
             (Gives link line.items (state_of self.old out.old) (state_of self.new out.new)) }
         ensures connected { OnOk result (IsStillConnected self.old.server out.old.outs
@@ -224,7 +224,7 @@ impl Layer {
         nick: &Nick,
         other: Option<&Nick>,
         out: &mut Batch,
-    ) -> Result<(), AllocError> 
+    ) -> Result<(), AllocError>
         ensures heard { OnOk result
             (GivesKills link nick.now (option_copied other.entry) (state_of self.old out.old) (state_of self.new out.new)) }
         ensures connected { OnOk result (IsStillConnected self.old.server out.old.outs
@@ -238,7 +238,7 @@ impl Layer {
     }
 
     /// A user is killed, as by the server at the other end.
-    fn give_kill(&mut self, link: u64, nick: &Nick, out: &mut Batch) -> Result<(), AllocError> 
+    fn give_kill(&mut self, link: u64, nick: &Nick, out: &mut Batch) -> Result<(), AllocError>
         ensures heard { OnOk result
             (GivesKill link nick.now (state_of self.old out.old) (state_of self.new out.new)) }
         ensures connected { OnOk result (IsStillConnected self.old.server out.old.outs

@@ -57,7 +57,16 @@ fn put_at(
 {
     let behind = place_behind(held, place);
     match held.get(place) {
-        Some(sent) => put_one(ends, arrival, sent, Rest { held, place: behind }, out),
+        Some(sent) => put_one(
+            ends,
+            arrival,
+            sent,
+            Rest {
+                held,
+                place: behind,
+            },
+            out,
+        ),
         None => Ok(()),
     }
 }

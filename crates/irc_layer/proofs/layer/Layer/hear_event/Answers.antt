@@ -1,5 +1,4 @@
 use Rattle.std.proofs.Common.{◌∙◌, ap, subst, sym}
-use Rattle.irc_server.specs.declared.event.Event.TheVariants.{LinkLine}
 use Rattle.irc_engine.specs.Machines.{IsConnectedBy}
 use Rattle.irc_layer.specs.Ends.{end_at}
 use Rattle.irc_layer.specs.Layers.{is_heard, state_of}
