@@ -16,7 +16,7 @@ links to each daemon in turn and reads all that it tells, so daemons that differ
 
 tests/in_flight.py PROGRAM [PART ..] [--phases N] [--seed S] [--show]. PROGRAM is crates/ircd/out/ircd, which `./ircd build` makes; where IRCD
 names it, all words are parts. --phases is of `random` (300; 6,000 is the full number); --show prints each pair and phase that ends differently.
-A link is lost where the line between two daemons sees its connection end. Each part wants that none is; the matrix also that at most 19 pairs
+A link is lost where the line between two daemons sees its connection end. Each part wants that none is; the matrix also that at most 11 pairs
 end differently, half_gone that nobody is on one side alone, and chase that what the operator did holds on both sides.
 Exit status: 0 where every part held, 1 where one did not.
 """
@@ -41,7 +41,7 @@ LAST = "#\xff"
 ROUNDS = 4
 DELAYS = [0.005, 0.02, 0.05]
 TRIES = 10
-MOST_UNLIKE = 19
+MOST_UNLIKE = 11
 
 
 class Held:

@@ -79,7 +79,7 @@ impl Layer {
         self.held.clear();
         Machine::handle(&mut self.server, event, &mut self.held)?;
         follow(&mut self.ends, self.alloc, self.plain.as_slice(), event)?;
-        put_all(&mut self.ends, arrival, &self.held, out)?;
+        put_all(&mut self.ends, arrival, &mut self.held, out)?;
         Ok(())
     }
 

@@ -1,12 +1,13 @@
 //! What a server has put out is put out by its layer.
-ghost use Rattle.std.specs.Prelude.{◌≡◌, ◌++◌, ◌+◌, ◌<◌, ◌≤◌, drop, length, OnOk};
+ghost use Rattle.std.specs.Prelude.{◌≡◌, ◌++◌, ◌∷◌, ◌+◌, ◌<◌, ◌≤◌, [], drop, length, IfOk, OnOk};
 ghost use Rattle.irc_line.specs.Limits.{max_text};
-ghost use Rattle.irc_batch.specs.Batches.{sent_of, IsText};
+ghost use Rattle.std.specs.Option.{option_copied};
+ghost use Rattle.irc_batch.specs.Batches.{line_to, sent_of, IsText};
 ghost use Rattle.irc_layer.specs.Ends.{change_end, end_at, with_end};
 ghost use Rattle.irc_layer.specs.Putting.{all_put, behind_line, ends_behind, ends_behind_all};
 ghost use Rattle.irc_layer.specs.Putting.{line_put, next_on, one_put, piece_lines, squits_ahead};
 ghost use Rattle.irc_layer.specs.Putting.{with_next};
-ghost use Rattle.irc_layer.specs.Loops.Rests.{rest_of};
+ghost use Rattle.irc_layer.specs.Loops.Rests.{rest_of, IsAtHand};
 
 use crate::end::{End, PieceOn, body, is_squit};
 use irc_batch::{Batch, Out};
@@ -18,11 +19,29 @@ use std::collections::BTreeMap;
 pub(crate) type Ends = BTreeMap<u64, End, Global>;
 
 /// Puts out all that a server has put out; `arrival` is the link by which the line came that it
-/// has handled.
+/// has handled. Where no link is there nothing is looked at or copied.
 ///
 /// # Errors
 /// Where memory runs out.
 pub(crate) fn put_all(
+    ends: &mut Ends,
+    arrival: Option<u64>,
+    held: &mut Batch,
+    out: &mut Batch,
+) -> Result<(), AllocError>
+    ensures outs { OnOk result
+        (out.new.outs ≡ out.old.outs ++ all_put arrival held.old.outs (end_at ends.old)) }
+    ensures ends { OnOk result
+        (end_at ends.new ≡ ends_behind_all arrival held.old.outs (end_at ends.old)) }
+{
+    if ends.is_empty() {
+        return out.append(held);
+    }
+    put_each(ends, arrival, held, out)
+}
+
+/// Puts out one thing after another.
+fn put_each(
     ends: &mut Ends,
     arrival: Option<u64>,
     held: &Batch,
@@ -33,41 +52,60 @@ pub(crate) fn put_all(
     ensures ends { OnOk result
         (end_at ends.new ≡ ends_behind_all arrival held.now.outs (end_at ends.old)) }
 {
+    let mut at_hand = None;
     for place in 0..held.len() {
-        put_at(ends, arrival, held, place, out)?;
+        at_hand = put_at(ends, arrival, Rest { held, place }, at_hand, out)?;
     }
     Ok(())
 }
 
-/// Puts out what stands at a place.
-fn put_at(
+/// Puts out what stands at a place. `at_hand` is a line of a client that the batch has at hand, if
+/// there is one; so is what is answered. A line that goes to many clients lies there once.
+fn put_at<'a>(
     ends: &mut Ends,
     arrival: Option<u64>,
-    held: &Batch,
-    place: usize,
+    at: Rest<'a>,
+    at_hand: Option<&[u8]>,
     out: &mut Batch,
-) -> Result<(), AllocError>
-    requires there { place < length held.now.outs }
-    ensures outs { OnOk result
-        (out.new.outs ++ all_put arrival (drop (place + 1) held.now.outs) (end_at ends.new)
-        ≡ out.old.outs ++ all_put arrival (drop place held.now.outs) (end_at ends.old)) }
+) -> Result<Option<&'a [u8]>, AllocError>
+    requires there { at.place < length at.held.now.outs }
+    requires hand { IsAtHand (option_copied at_hand) out.old.held }
+    ensures outs { OnOk result (out.new.outs
+        ++ all_put arrival (drop (at.entry.place + 1) at.entry.held.now.outs) (end_at ends.new)
+        ≡ out.old.outs ++ all_put arrival (rest_of at.entry) (end_at ends.old)) }
     ensures ends { OnOk result
-        (ends_behind_all arrival (drop (place + 1) held.now.outs) (end_at ends.new)
-        ≡ ends_behind_all arrival (drop place held.now.outs) (end_at ends.old)) }
+        (ends_behind_all arrival (drop (at.entry.place + 1) at.entry.held.now.outs)
+        (end_at ends.new) ≡ ends_behind_all arrival (rest_of at.entry) (end_at ends.old)) }
+    ensures hand { IfOk result (λ line. IsAtHand (option_copied line) out.new.held) }
 {
-    let behind = place_behind(held, place);
-    match held.get(place) {
-        Some(sent) => put_one(
-            ends,
-            arrival,
-            sent,
-            Rest {
-                held,
+    let behind = place_behind(at.held, at.place);
+    match at.held.get(at.place) {
+        Some(Out::Line(conn, line)) => {
+            put_to(conn, line, at_hand, out)?;
+            Ok(Some(line))
+        }
+        Some(sent) => {
+            let rest = Rest {
+                held: at.held,
                 place: behind,
-            },
-            out,
-        ),
-        None => Ok(()),
+            };
+            put_one(ends, arrival, sent, rest, out)?;
+            Ok(None)
+        }
+        None => Ok(None),
+    }
+}
+
+/// Puts out a line to a client, which may be at hand.
+fn put_to(conn: u64, line: &[u8], at_hand: Option<&[u8]>, out: &mut Batch) -> Result<(), AllocError>
+    requires fits { length line.now ≤ max_text }
+    requires hand { IsAtHand (option_copied at_hand) out.old.held }
+    ensures outs { OnOk result (out.new.outs ≡ out.old.outs ++ line_to conn line.now ∷ []) }
+    ensures hand { OnOk result (out.new.held ≡ line.now) }
+{
+    match at_hand {
+        Some(other) if other == line => out.send(conn),
+        _ => out.put(conn, line),
     }
 }
 
@@ -79,15 +117,14 @@ fn place_behind(held: &Batch, place: usize) -> usize
     place.saturating_add(1).min(held.len())
 }
 
-/// What is put out behind something.
+/// What is put out from a place on.
 #[derive(Clone, Copy)]
 struct Rest<'a> {
     held: &'a Batch,
-    /// From this place on.
     place: usize,
 }
 
-/// Puts out one thing.
+/// Puts out one thing, behind which this is put out.
 fn put_one(
     ends: &mut Ends,
     arrival: Option<u64>,

@@ -189,10 +189,7 @@ fn callee_of(peer: &PeerSettings) -> Result<Option<Callee>, Stop>
 }
 
 /// The names of those peers that know no pieces.
-fn plain_names(
-    alloc: Global,
-    peers: &[PeerSettings],
-) -> Result<Vec<ServerName, Global>, AllocError>
+fn plain_names(alloc: Global, peers: &[PeerSettings]) -> Result<Vec<ServerName, Global>, AllocError>
     ensures { IfOk result (λ names. names.items ≡ plain_names peers.now) }
 {
     let mut names = Vec::new(alloc);
@@ -202,10 +199,7 @@ fn plain_names(
     Ok(names)
 }
 
-fn add_name(
-    names: &mut Vec<ServerName, Global>,
-    name: Option<ServerName>,
-) -> Result<(), AllocError>
+fn add_name(names: &mut Vec<ServerName, Global>, name: Option<ServerName>) -> Result<(), AllocError>
     ensures { OnOk result (names.new.items ≡ names.old.items ++ option_to_list name) }
 {
     match name {

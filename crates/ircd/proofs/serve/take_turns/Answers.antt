@@ -1,4 +1,3 @@
-use Rattle.std.proofs.Common.{Err}
 use Rattle.irc_engine.specs.EngineView.{engine_view}
 use Rattle.ircd.proofs.Ready.{turns_stopped}
 use Rattle.ircd.proofs.serve.take_turns.Goals as goal

@@ -19,7 +19,7 @@ returns-clause-passes c =
       server = c.handle.new.self;
       ends = c.put_all.new.ends;
       plain = c.args.self.now.plain;
-      held = c.handle.new.out;
+      held = c.put_all.new.held;
       alloc = c.args.self.now.alloc;
     }) c.put_all.new.out)
     c.clear.new.self.outs c.handle.new.out.outs (end_at c.follow.new.ends)
@@ -36,7 +36,7 @@ returns-clause-connected c =
       server = c.handle.new.self;
       ends = c.put_all.new.ends;
       plain = c.args.self.now.plain;
-      held = c.handle.new.out;
+      held = c.put_all.new.held;
       alloc = c.args.self.now.alloc;
     }) c.put_all.new.out)
     c.clear.new.self.outs c.handle.new.out.outs (end_at c.follow.new.ends)
