@@ -10,6 +10,7 @@
   deaf     a peer that never reads is closed once more waits than its room, and nobody else
   small    a burst that does not fit into the room of a link closes it, and nobody else
   liars    peers with a wrong password, an unknown name, a name that is there, or lines out of place are closed
+  counted  a peer that counts pieces is told how many were read, is read as it meant what it wrote, and is closed where it counts too many
   doors    a peer at the clients' port stays a client, and a client at the links' port is closed
   silent   peers that connect and say nothing, or no end of a line, change nothing
   knocking who connects at the links' door without end keeps nobody waiting, and new clients come in by theirs
@@ -627,6 +628,31 @@ def liars(program):
                     f"{len(rows)} greetings are refused without a word, and who speaks for another server's user is closed; not closed: {still_open or 'none'}")
 
 
+def counted(program):
+    network, al, bo = with_peer(program)
+    with network:
+        peer = network.peer("a.net", "w.net", greets=False)
+        peer.says(f"PASS {PASSWORD} 0210010001 TREE| exact1", "SERVER w.net 1 1 :A peer")
+        greets = peer.sees("^PASS ").endswith(" exact1")
+        peer.sees("^SERVER ")
+        peer.says("NICK ww 1 u peer.example 1 + :W", ":ww JOIN #den")
+        al.sees(":ww!")
+        # each line behind SERVER was a piece; behind these al has another nickname, which w.net has not read when it writes
+        read = sum(not line.startswith("COUNT ") for line in peer.seen) - 2
+        al.says("NICK ally")
+        peer.sees(":al NICK :?ally")
+        peer.says(f"COUNT {read} 1", ":ww PRIVMSG al :to whom I knew as al")
+        is_meant = "to whom I knew" in al.sees(" PRIVMSG ally ")
+        peer.says(*(f":ww PRIVMSG #den :{number}" for number in range(63)))
+        is_told = bool(peer.sees("^COUNT 66 0$"))
+        peer.says("COUNT 1000 1", ":ww PART #den :more than there were")
+        is_closed = peer.ends()
+        al.says("NICK al")
+        bo.sees(" NICK :?al$")
+        return told("counted", greets and is_meant and is_told and is_closed and are_well(network, al, bo),
+                    "it is answered with the word, al is told as ally what was said to al, 64 pieces behind the last count are counted, and 1000 end the link")
+
+
 def doors(program):
     network, al, bo = with_peer(program)
     with network:
@@ -1120,7 +1146,7 @@ def spoken(program):
     return goes_on(program, {"stderr": None, "preexec_fn": lambda: os.close(2)}, "closed") and held
 
 
-PARTS = [people, clash, lost, burst, joined, wild, deaf, small, liars, doors, silent, knocking, reset, waiting, refused, files, late, again, crossing,
+PARTS = [people, clash, lost, burst, joined, wild, deaf, small, liars, counted, doors, silent, knocking, reset, waiting, refused, files, late, again, crossing,
          ring, flooding, probed, spoken]
 
 
