@@ -1,4 +1,5 @@
 pub mod Ends
+pub mod Examples
 pub mod Holding
 pub mod Layers
 pub mod Loops

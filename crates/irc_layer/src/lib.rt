@@ -5,6 +5,7 @@
 
 mod end;
 mod holding;
+pub mod laws;
 mod layer;
 mod putting;
 

@@ -1,0 +1,19 @@
+-- Lines on links, computed.
+use Rattle.std.proofs.Common.{refl}
+use Rattle.std.specs.Fmt.{digits}
+use Rattle.irc_line.specs.Bytes.{cut}
+use Rattle.irc_line.specs.Messages.{line_text}
+use Rattle.irc_line.specs.Reading.{read_of}
+use Rattle.irc_layer.specs.Examples.{CountIsInFront, KillDoesNotGoBack, LostServersAreOne}
+
+pub count_is_in_front : CountIsInFront
+unfolding read_of line_text cut digits
+count_is_in_front = refl
+
+pub lost_servers_are_one : LostServersAreOne
+unfolding read_of line_text cut digits
+lost_servers_are_one = refl
+
+pub kill_does_not_go_back : KillDoesNotGoBack
+unfolding read_of
+kill_does_not_go_back = refl

@@ -1,0 +1,12 @@
+use Rattle.irc_layer.proofs.Examples.{count_is_in_front, kill_does_not_go_back}
+use Rattle.irc_layer.proofs.Examples.{lost_servers_are_one}
+use Rattle.irc_layer.proofs.laws.lines_put_out.Goals as goal
+
+pub returns-clause-count : goal.returns-clause-count
+returns-clause-count c = count_is_in_front
+
+pub returns-clause-lost : goal.returns-clause-lost
+returns-clause-lost c = lost_servers_are_one
+
+pub returns-clause-echo : goal.returns-clause-echo
+returns-clause-echo c = kill_does_not_go_back

@@ -1,0 +1,63 @@
+-- What a layer puts out on links, over lines of wire: the examples of `Putting.antt`.
+use Rattle.std.specs.Prelude.{◌≡◌, ℕ, true, Some, None, List, [], ◌∷◌, ◌++◌, codes, nat_eq}
+use Rattle.std.specs.Prelude.{if◌then◌else◌}
+use Rattle.irc_line.specs.Bytes.{crlf}
+use Rattle.irc_batch.specs.Batches.{Sent, line_on, line_to}
+use Rattle.irc_link_end.specs.declared.greeting.Greeting.TheVariants.{Whole}
+use Rattle.irc_layer.specs.declared.end.End.{End}
+use Rattle.irc_layer.specs.Ends.{Ends}
+use Rattle.irc_layer.specs.Putting.{all_put}
+
+-- an end that counts pieces and has met the other one: it has read so many pieces, and told so many
+abbrev pub counting : (read told : ℕ) → End
+counting read told = record {
+  link = record {
+    calls = true;
+    offers = true;
+    is_offered = true;
+    greeting = Whole;
+    is_met = true;
+    pieces = record {
+      counts = record { sent = 0; taken = 0; read = read; told = told; untold_bytes = 0 };
+      left = 0;
+      mark = None;
+      lines = [];
+      bytes = 0;
+    };
+  };
+  left = 0;
+  log = [];
+}
+
+-- links 3 and 4 are there, each with such an end
+abbrev pub two_links : (read told : ℕ) → Ends
+two_links read told link = if nat_eq 3 link then Some (counting read told)
+    else (if nat_eq 4 link then Some (counting read told) else None)
+
+-- a line on a link
+abbrev pub on : ℕ → List ℕ → Sent
+on link line = line_on link (line ++ crlf)
+
+-- what was read is told in front of the first line, and what clients are told goes as it is
+abbrev pub CountIsInFront : Type 0
+CountIsInFront =
+    all_put None (on 3 (codes ":al JOIN #c") ∷ line_to 1 (codes "hi") ∷ on 3 (codes ":al PART #c :bye")
+    ∷ []) (two_links 5 3)
+    ≡ on 3 (codes "COUNT 5 1") ∷ on 3 (codes ":al JOIN #c") ∷ line_to 1 (codes "hi")
+    ∷ on 3 (codes ":al PART #c :bye") ∷ []
+
+-- servers that are lost together are one piece on each link
+abbrev pub LostServersAreOne : Type 0
+LostServersAreOne =
+    all_put None (on 3 (codes ":a.net SQUIT c.net :x") ∷ on 4 (codes ":a.net SQUIT c.net :x")
+    ∷ on 3 (codes ":a.net SQUIT d.net :x") ∷ on 4 (codes ":a.net SQUIT d.net :x")
+    ∷ on 3 (codes ":al JOIN #c") ∷ []) (two_links 5 5)
+    ≡ on 3 (codes "COUNT 5 2") ∷ on 3 (codes ":a.net SQUIT c.net :x") ∷ on 4 (codes "COUNT 5 2")
+    ∷ on 4 (codes ":a.net SQUIT c.net :x") ∷ on 3 (codes ":a.net SQUIT d.net :x")
+    ∷ on 4 (codes ":a.net SQUIT d.net :x") ∷ on 3 (codes ":al JOIN #c") ∷ []
+
+-- a KILL does not go back on the link by which the NICK came that it answers
+abbrev pub KillDoesNotGoBack : Type 0
+KillDoesNotGoBack =
+    all_put (Some 3) (on 3 (codes ":a.net KILL zed :x") ∷ on 4 (codes ":a.net KILL zed :x") ∷ [])
+    (two_links 5 5) ≡ on 4 (codes ":a.net KILL zed :x") ∷ []

@@ -1,0 +1,10 @@
+//! What a layer puts out, computed. A law is a function that does nothing, and its contract is the
+//! law: the check proves it.
+ghost use Rattle.irc_layer.specs.Examples.{CountIsInFront, KillDoesNotGoBack, LostServersAreOne};
+
+/// Lines on links.
+pub fn lines_put_out()
+    ensures count { CountIsInFront }
+    ensures lost { LostServersAreOne }
+    ensures echo { KillDoesNotGoBack }
+{}
