@@ -10,7 +10,8 @@ use Rattle.irc_crossing.specs.declared.change.Change.TheVariants.{Come, Rename, 
 use Rattle.irc_crossing.specs.Changes.{renamed_now}
 use Rattle.irc_crossing.specs.Changes.{crossed, is_gone, member_now}
 use Rattle.irc_crossing.specs.Changes.{gone_of, nick_now, taken_by}
-use Rattle.irc_crossing.specs.Laws.{AreNames, AreOfTwo, IsPossible, MayGo, MayRename, NewcomersAgree}
+use Rattle.irc_crossing.specs.Laws.{AreNames, AreOfTwo, IsPossible, MayGo, MayRename}
+use Rattle.irc_crossing.specs.Laws.{NewcomersAgree}
 use Rattle.irc_crossing.specs.Laws.{nick_after, nick_behind_both}
 
 -- ---- names that are the same
@@ -29,7 +30,8 @@ not_turned one other not = by (same other one) refl
     by false is = refl
 
 -- one of two that are the same, against a third
-pub first_same : (one other third : List ℕ) → same one other ≡ true → same one third ≡ same other third
+pub first_same : (one other third : List ℕ) → same one other ≡ true
+    → same one third ≡ same other third
 first_same one other third is =
     ap (λ folds. pointwise nat_eq folds (key third)) ((same-tells one other).0 is)
 
@@ -55,8 +57,8 @@ behind_out : (ours : Change) (out channel nick : List ℕ)
 behind_out (Come other) out channel nick = refl
 behind_out (Rename old new) out channel nick = by (same old new) refl
   where
-    by : (b : Bool) → same old new ≡ b
-        → nick_now (Rename old new) nick ≡ nick_after (crossed (Rename old new) (Out out channel)) nick
+    by : (b : Bool) → same old new ≡ b → nick_now (Rename old new) nick
+        ≡ nick_after (crossed (Rename old new) (Out out channel)) nick
     by true is = search (rules, is)
     by false is = search (rules, is)
 behind_out (Go one None) out channel nick = refl
@@ -567,8 +569,8 @@ newcomer_spelled : (a o w : List ℕ) → same o w ≡ true → same a o ≡ fal
     ≡ option_and_then taken_by (crossed (Come a) (Rename o w))
 newcomer_spelled a o w ow ao = search (rules, ow, ao)
 
-newcomers_meet : (a b : List ℕ) (met : Bool) → same a b ≡ met → same b a ≡ met
-    → nick_after (crossed (Come b) (Come a)) a ≡ option_and_then taken_by (crossed (Come a) (Come b))
+newcomers_meet : (a b : List ℕ) (met : Bool) → same a b ≡ met → same b a ≡ met → nick_after
+    (crossed (Come b) (Come a)) a ≡ option_and_then taken_by (crossed (Come a) (Come b))
 newcomers_meet a b true ab ba = search (rules, ab, ba)
 newcomers_meet a b false ab ba = search (rules, ab, ba)
 

@@ -1,5 +1,6 @@
 -- Two changes, each done first at one end: members of channels.
-use Rattle.std.proofs.Common.{◌≡◌, ℕ, Bool, true, false, ◌||◌, ◌&&◌, Option, Some, None, List, refl, sym}
+use Rattle.std.proofs.Common.{◌≡◌, ℕ, Bool, true, false, ◌||◌, ◌&&◌, Option, Some, None, List, refl}
+use Rattle.std.proofs.Common.{sym}
 use Rattle.std.proofs.Common.{◌∙◌, ap, if◌then◌else◌, rules, true≢false}
 use Rattle.std.specs.Option.{option_and_then, option_map}
 use Rattle.irc_names.specs.Fold.{same}
@@ -11,7 +12,8 @@ use Rattle.irc_crossing.specs.Changes.{gone_of, nick_now, taken_by}
 use Rattle.irc_crossing.specs.Laws.{AreNames, BothEndsAgree, IsPossible, MayRename}
 use Rattle.irc_crossing.specs.Laws.{member_after, member_behind_both, nick_after, nick_behind_both}
 use Rattle.irc_crossing.proofs.BothEnds.{IsGoer, IsMover, both_nicks_agree, first_same}
-use Rattle.irc_crossing.proofs.BothEnds.{free_of, gone_alike, goer, not_turned, or_turned, same_self}
+use Rattle.irc_crossing.proofs.BothEnds.{free_of, gone_alike, goer, not_turned, or_turned}
+use Rattle.irc_crossing.proofs.BothEnds.{same_self}
 use Rattle.irc_crossing.proofs.BothEnds.{turned}
 
 -- ---- changes that take nobody out of a channel are of all who are there
@@ -64,16 +66,16 @@ out_come u c a ch n false true un at an au = search (rules, un, at, an, au)
 out_come u c a ch n false false un at an au = search (rules, un, at, an, au)
 
 out_spelled : (u c o w ch n : List ℕ) (un cc : Bool) → same u n ≡ un → same c ch ≡ cc
-    → same o w ≡ true
-    → member_behind_both (Out u c) (Rename o w) ch n ≡ member_behind_both (Rename o w) (Out u c) ch n
+    → same o w ≡ true → member_behind_both (Out u c) (Rename o w) ch n
+    ≡ member_behind_both (Rename o w) (Out u c) ch n
 out_spelled u c o w ch n true true un at ow = search (rules, un, at, ow)
 out_spelled u c o w ch n true false un at ow = search (rules, un, at, ow)
 out_spelled u c o w ch n false true un at ow = search (rules, un, at, ow)
 out_spelled u c o w ch n false false un at ow = search (rules, un, at, ow)
 
 out_rename : (u c o w ch n : List ℕ) (on first at cc : Bool) → IsMover o w n on
-    → IsGoer o w n u first at → same c ch ≡ cc
-    → member_behind_both (Out u c) (Rename o w) ch n ≡ member_behind_both (Rename o w) (Out u c) ch n
+    → IsGoer o w n u first at → same c ch ≡ cc → member_behind_both (Out u c) (Rename o w) ch n
+    ≡ member_behind_both (Rename o w) (Out u c) ch n
 out_rename u c o w ch n true true true true m g at =
     search (rules, m.ow, m.wn, m.ww, m.here, g.ox, g.xo, g.xn, g.wx, g.xw, at)
 out_rename u c o w ch n true true true false m g at =
@@ -170,8 +172,8 @@ out_out u c v d ch n =
 -- ---- two changes
 
 -- that take nobody out of a channel
-named : (theirs ours : Change) (ch n : List ℕ) → ((it : List ℕ) → IsOfAll ch it (crossed theirs ours))
-    → ((it : List ℕ) → IsOfAll ch it (crossed ours theirs))
+named : (theirs ours : Change) (ch n : List ℕ) → ((it : List ℕ)
+    → IsOfAll ch it (crossed theirs ours)) → ((it : List ℕ) → IsOfAll ch it (crossed ours theirs))
     → nick_behind_both theirs ours n ≡ nick_behind_both ours theirs n
     → option_and_then (member_after (crossed theirs ours) ch) (nick_now ours n)
     ≡ option_and_then (member_after (crossed ours theirs) ch) (nick_now theirs n)

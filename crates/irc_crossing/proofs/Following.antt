@@ -1,5 +1,6 @@
 -- Nicknames, by the first change of a log; and two who take one.
-use Rattle.std.proofs.Common.{◌≡◌, ℕ, Bool, true, false, ◌||◌, Option, Some, None, List, ◌∷◌, refl, sym}
+use Rattle.std.proofs.Common.{◌≡◌, ℕ, Bool, true, false, ◌||◌, Option, Some, None, List, ◌∷◌, refl}
+use Rattle.std.proofs.Common.{sym}
 use Rattle.std.proofs.Common.{◌∙◌, ap, if◌then◌else◌, unwrap_or}
 use Rattle.std.specs.Option.{option_and_then, option_map_or}
 use Rattle.irc_line.specs.Messages.{Parsed}
@@ -66,7 +67,8 @@ module _ (piece : ℕ) (nick : List ℕ) (log : List Entry) where
         by : (b : Bool)
             → (if b then word_now (means_in gone_log (word_at 0 message)) nick
             else word_now (means gone_log) nick) ≡ None
-        by true = no_word (means_in gone_log (word_at 0 message)) (means_in_none (word_at 0 message))
+        by true =
+            no_word (means_in gone_log (word_at 0 message)) (means_in_none (word_at 0 message))
         by false = no_word (means gone_log) means_none
 
 pub who_is_gone_is_left_out : WhoIsGoneIsLeftOut
@@ -74,7 +76,8 @@ who_is_gone_is_left_out piece nick log line message read from is other is_held =
     let gone = gone_log piece nick log in
     ap (read_given gone is_held) read
     ∙ ap (λ b. if b then option_map_or
-    (λ (change : Change). nick_given is_held message (through (Some change) gone)) (change_of message)
+    (λ (change : Change). nick_given is_held message (through (Some change) gone))
+    (change_of message)
     AsItCame else given_by gone message message.prefix) other
     ∙ ap (given_by gone message) from
     ∙ ap (given_from gone message) (no_doer piece nick log is message)

@@ -1,5 +1,6 @@
 -- Where nothing has crossed.
-use Rattle.std.proofs.Common.{◌≡◌, ℕ, zero, suc, Bool, true, false, ◌&&◌, Option, Some, None, Result}
+use Rattle.std.proofs.Common.{◌≡◌, ℕ, zero, suc, Bool, true, false, ◌&&◌, Option, Some, None}
+use Rattle.std.proofs.Common.{Result}
 use Rattle.std.proofs.Common.{Ok, Err, List, [], ◌∷◌, length, nat_eq, refl, sym, ◌∙◌, ap}
 use Rattle.std.proofs.Common.{arith, if◌then◌else◌}
 use Rattle.std.proofs.lemmas.Bool.{eqb-true}
@@ -20,12 +21,14 @@ use Rattle.irc_crossing.specs.declared.hearing.Given.TheVariants.{AsItCame, Chan
 use Rattle.irc_crossing.specs.declared.log.Entry.{Entry}
 use Rattle.irc_crossing.specs.Hearing.{doer_now, given, given_by, given_from, given_if, given_with}
 use Rattle.irc_crossing.specs.Hearing.{is_same_prefix, letter_word, log_after_read, message_given}
-use Rattle.irc_crossing.specs.Hearing.{mode_words_now, modes_left, modes_now, nick_given, read_given}
+use Rattle.irc_crossing.specs.Hearing.{mode_words_now, modes_left, modes_now, nick_given}
+use Rattle.irc_crossing.specs.Hearing.{read_given}
 use Rattle.irc_crossing.specs.Hearing.{with_letter, with_worded, word_now, words_left, words_now_at}
 use Rattle.irc_crossing.specs.Hearing.{written_with}
 use Rattle.irc_crossing.specs.Laws.{NothingIsChanged, NothingIsLogged}
 use Rattle.irc_crossing.specs.Lines.{change_of, has_word, is_for_somebody, is_kick_line}
-use Rattle.irc_crossing.specs.Lines.{is_mode_line, is_nick_line, is_part_line, is_sign, names_member}
+use Rattle.irc_crossing.specs.Lines.{is_mode_line, is_nick_line, is_part_line, is_sign}
+use Rattle.irc_crossing.specs.Lines.{names_member}
 use Rattle.irc_crossing.specs.Lines.{nick_change, plus_behind, word_at}
 use Rattle.irc_crossing.specs.Logs.{means, means_in}
 

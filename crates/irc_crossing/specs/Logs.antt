@@ -5,7 +5,7 @@
 --   5   :al NICK ally           Rename al ally
 --   6   :a.net KILL bo :..      Go bo
 -- then from b.net comes
---   :bo NICK bob                Rename bo bob: nothing behind 6; and 6 is Go bob for what comes next
+--   :bo NICK bob                Rename bo bob: nothing behind 6, which is Go bob from then on
 --   :bob NICK rob               nothing again, and 6 is Go rob
 --   COUNT 6 0                   both are read, and the log is empty
 use Rattle.std.specs.Prelude.{ℕ, Bool, false, Option, Some, None, List, [], ◌∷◌, ◌++◌, nat_le}

@@ -114,7 +114,8 @@ impl Log {
 
     /// What a line that is no NICK is given as.
     fn given_by(&self, message: &Message<'_>) -> Given
-        ensures { result ≡ given_by self.now (parsed message.now) (optional_now message.now.prefix) }
+        ensures { result ≡ given_by self.now (parsed message.now)
+            (optional_now message.now.prefix) }
     {
         match message.prefix {
             Some(doer) => match self.doer_now(message, doer) {

@@ -1,13 +1,15 @@
-//! What holds of lines that cross, whatever is in the log and whatever comes. Each law is a function
-//! that does nothing, and its contract is the law: the check proves it, and a crate above may cite
-//! it.
+//! What holds of lines that cross, whatever is in the log and whatever comes. Each law is a
+//! function that does nothing, and its contract is the law: the check proves it, and a crate above
+//! may cite it.
 ghost use Rattle.irc_crossing.specs.Examples.{GoneIsLeftOut, InviteIsLeftOut, KeyStays};
 ghost use Rattle.irc_crossing.specs.Examples.{KickIsFollowed, KickIsLeftOut, KillIsFollowed};
 ghost use Rattle.irc_crossing.specs.Examples.{KilledIsFollowed, LetterIsLeftOut, MetGoes};
 ghost use Rattle.irc_crossing.specs.Examples.{MetIsGiven, MetIsKilled, ModeIsLeftOut};
 ghost use Rattle.irc_crossing.specs.Examples.{NextIsSpared, PartIsLeftOut, TextIsLeftOut};
-ghost use Rattle.irc_crossing.specs.Laws.{BothEndsAgree, ComersAreOthers, NamesAreFollowed, NothingIsChanged};
-ghost use Rattle.irc_crossing.specs.Laws.{NewcomersAgree, NothingIsLogged, TakersAreOthers, TwoToOneNameGo};
+ghost use Rattle.irc_crossing.specs.Laws.{BothEndsAgree, ComersAreOthers, NamesAreFollowed};
+ghost use Rattle.irc_crossing.specs.Laws.{NothingIsChanged};
+ghost use Rattle.irc_crossing.specs.Laws.{NewcomersAgree, NothingIsLogged, TakersAreOthers};
+ghost use Rattle.irc_crossing.specs.Laws.{TwoToOneNameGo};
 ghost use Rattle.irc_crossing.specs.Laws.{WhoIsGoneIsLeftOut};
 
 /// Where nothing has crossed, a line is given as it came, and the log stays empty.

@@ -9,7 +9,8 @@ use Rattle.irc_batch.specs.Batches.{Sent, end_of_link}
 use Rattle.irc_stage.specs.View.{View}
 use Rattle.irc_server.specs.declared.event.Event.{Event}
 use Rattle.irc_server.specs.declared.event.Event.TheVariants.{LinkLine, LinkDown}
-use Rattle.irc_server.specs.Connected.{client_comes, client_goes, ends_client, ends_link, has_client}
+use Rattle.irc_server.specs.Connected.{client_comes, client_goes, ends_client, ends_link}
+use Rattle.irc_server.specs.Connected.{has_client}
 use Rattle.irc_server.specs.Connected.{has_link, is_client_ended, is_link_ended, is_there_after}
 use Rattle.irc_server.specs.Connected.{link_comes, link_goes}
 use Rattle.irc_server.specs.ReadEvents.{read_event_of}
@@ -214,7 +215,8 @@ connected_put event arrival ends server after outs before end by is = record {
         was.0,
         was.1,
         put_by event arrival ends was.0 behind outs
-            (subst (λ x. AreConnectedBy was.0 (read_event_of event) x behind) (sym by.after_is) was.2),
+            (subst (λ x. AreConnectedBy was.0 (read_event_of event) x behind)
+            (sym by.after_is) was.2),
       );
 }
 

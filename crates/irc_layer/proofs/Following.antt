@@ -1,5 +1,6 @@
 -- What is at a place of a batch, and what follows it.
-use Rattle.std.proofs.Common.{◌≡◌, ◌<◌, ◌+◌, ◌++◌, ℕ, Bool, true, false, nat_eq, List, [], ◌∷◌, Option}
+use Rattle.std.proofs.Common.{◌≡◌, ◌<◌, ◌+◌, ◌++◌, ℕ, Bool, true, false, nat_eq, List, [], ◌∷◌}
+use Rattle.std.proofs.Common.{Option}
 use Rattle.std.proofs.Common.{Some, None, drop, length, ◌∙◌, ap, arith, get_or, suc, sym, refl}
 use Rattle.std.proofs.Common.{append_assoc, option_map, if◌then◌else◌}
 use Rattle.std.specs.Prelude.{OnOk}

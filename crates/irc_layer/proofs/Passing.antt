@@ -1,6 +1,7 @@
 -- The server of a layer is given an event.
 use Rattle.std.proofs.Common.{◌≡◌, ℕ, Bool, true, false, Option, Some, None, Result, Ok, Err}
-use Rattle.std.proofs.Common.{append-nil, is_some, IfErr, IsErrAnd, List, [], ◌++◌, refl, sym, ◌∙◌, ap, subst}
+use Rattle.std.proofs.Common.{append-nil, is_some, IfErr, IsErrAnd, List, [], ◌++◌, refl, sym, ◌∙◌}
+use Rattle.std.proofs.Common.{ap, subst}
 use Rattle.std.specs.FinMap.{get}
 use Rattle.irc_batch.specs.declared.close_reason.CloseReason.{CloseReason}
 use Rattle.irc_batch.specs.Batches.{Sent}

@@ -41,7 +41,8 @@ on link line = line_on link (line ++ crlf)
 -- what was read is told in front of the first line, and what clients are told goes as it is
 abbrev pub CountIsInFront : Type 0
 CountIsInFront =
-    all_put None (on 3 (codes ":al JOIN #c") ∷ line_to 1 (codes "hi") ∷ on 3 (codes ":al PART #c :bye")
+    all_put None
+    (on 3 (codes ":al JOIN #c") ∷ line_to 1 (codes "hi") ∷ on 3 (codes ":al PART #c :bye")
     ∷ []) (two_links 5 3)
     ≡ on 3 (codes "COUNT 5 1") ∷ on 3 (codes ":al JOIN #c") ∷ line_to 1 (codes "hi")
     ∷ on 3 (codes ":al PART #c :bye") ∷ []

@@ -2,12 +2,10 @@
 -- and what is put out on links behind it.
 --
 -- What becomes of an event:
---   a client's, a link that begins, a link that is lost    the server is given it
---   a line of a link that is none of a piece yet           the server is given nothing
---   a line that makes a piece whole                        the server is given each line of it as it
---                                                          is meant here
---   a count of more than was put out                       the link is closed, and the server told
---                                                          that it is lost
+--   a client's, a link that begins or is lost    the server is given it
+--   a line of a piece that is not whole yet      the server is given nothing
+--   a line that makes a piece whole              the server is given each line as it is meant here
+--   a count of more than was put out             the link is closed, and the server told so
 use Rattle.std.specs.Prelude.{◌≡◌, ℕ, Bool, true, false, Option, Some, None, Result, Ok, Err, List}
 use Rattle.std.specs.Prelude.{[], ◌∷◌, ◌++◌, is_some}
 use Rattle.irc_line.specs.Messages.{text}
@@ -71,9 +69,11 @@ putting more state = record state { outs = state.outs ++ more }
 pub record Passes (arrival : Option ℕ) (event : Event) (old new : State) : Type 0 where
   pub outs : List Sent
   pub is_handled : IsHandled old.layer.server event [] (Ok tt) new.layer.server outs
-  pub ends_are : new.layer.ends ≡ ends_behind_all arrival outs (ends_followed event old.layer.plain old.layer.ends)
+  pub ends_are : new.layer.ends ≡ ends_behind_all arrival outs
+      (ends_followed event old.layer.plain old.layer.ends)
   pub plain_is : new.layer.plain ≡ old.layer.plain
-  pub outs_are : new.outs ≡ old.outs ++ all_put arrival outs (ends_followed event old.layer.plain old.layer.ends)
+  pub outs_are : new.outs ≡ old.outs ++ all_put arrival outs
+      (ends_followed event old.layer.plain old.layer.ends)
 
 -- the server refuses it, and nothing has changed
 pub record IsRefusedBy (event : Event) (old new : State) (fault : ServerFault) : Type 0 where

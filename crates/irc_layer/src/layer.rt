@@ -1,5 +1,6 @@
 //! A layer around a server.
-ghost use Rattle.std.specs.Prelude.{◌≡◌, ◌++◌, None, is_some, true, false, IfErr, IfNone, IfOk, OnOk};
+ghost use Rattle.std.specs.Prelude.{◌≡◌, ◌++◌, None, is_some, true, false, IfErr, IfNone, IfOk};
+ghost use Rattle.std.specs.Prelude.{OnOk};
 ghost use Rattle.std.specs.Option.{option_copied, option_map};
 ghost use Rattle.irc_crossing.specs.Hearing.{given};
 ghost use Rattle.irc_engine.specs.Machines.{is_out_of_memory, IsConnectedBy, IsRefusal};
@@ -121,7 +122,8 @@ impl Layer {
     /// A line of a link has come.
     fn hear(&mut self, link: u64, line: &Line, out: &mut Batch) -> Result<(), AllocError>
         ensures heard { OnOk result
-            (HearsIf (end_at self.old.ends link) link line.now.items (state_of self.old out.old) (state_of self.new out.new)) }
+            (HearsIf (end_at self.old.ends link) link line.now.items (state_of self.old out.old)
+            (state_of self.new out.new)) }
         ensures connected { OnOk result (IsStillConnected self.old.server out.old.outs
             self.new.server out.new.outs) }
     {
@@ -156,7 +158,8 @@ impl Layer {
         out: &mut Batch,
     ) -> Result<(), AllocError>
         ensures heard { OnOk result
-            (HearsAll link (lines_of lines.items) (state_of self.old out.old) (state_of self.new out.new)) }
+            (HearsAll link (lines_of lines.items) (state_of self.old out.old)
+            (state_of self.new out.new)) }
         ensures connected { OnOk result (IsStillConnected self.old.server out.old.outs
             self.new.server out.new.outs) }
     {
@@ -226,7 +229,8 @@ impl Layer {
         out: &mut Batch,
     ) -> Result<(), AllocError>
         ensures heard { OnOk result
-            (GivesKills link nick.now (option_copied other.entry) (state_of self.old out.old) (state_of self.new out.new)) }
+            (GivesKills link nick.now (option_copied other.entry) (state_of self.old out.old)
+            (state_of self.new out.new)) }
         ensures connected { OnOk result (IsStillConnected self.old.server out.old.outs
             self.new.server out.new.outs) }
     {
@@ -299,8 +303,8 @@ fn hear_at(ends: &mut Ends, link: u64, line: Line) -> Result<Heard, AllocError>
     }
 }
 
-/// What the server is given for a line, if the link has an end; `is_held` is whether somebody who is
-/// not behind the link has the nickname that the line brings.
+/// What the server is given for a line, if the link has an end; `is_held` is whether somebody who
+/// is not behind the link has the nickname that the line brings.
 fn give_at(ends: &mut Ends, link: u64, line: &Line, is_held: bool) -> Option<Given>
     ensures given { result ≡ option_map
         (λ (end : LinksEnd). given end.log is_held line.now.items) (end_at ends.old link) }

@@ -134,7 +134,8 @@ fn put_one(
 ) -> Result<(), AllocError>
     requires fits { IsText (sent_of sent) }
     ensures outs { OnOk result (out.new.outs
-        ≡ out.old.outs ++ one_put arrival (sent_of sent.entry) (rest_of rest.entry) (end_at ends.old)) }
+        ≡ out.old.outs ++ one_put arrival (sent_of sent.entry) (rest_of rest.entry)
+        (end_at ends.old)) }
     ensures ends { OnOk result (end_at ends.new
         ≡ ends_behind arrival (sent_of sent.entry) (rest_of rest.entry) (end_at ends.old)) }
 {

@@ -1,5 +1,6 @@
 use Rattle.irc_crossing.proofs.Examples.{gone_is_left_out, invite_is_left_out, kick_is_followed}
-use Rattle.irc_crossing.proofs.Examples.{kick_is_left_out, kill_is_followed, next_is_spared, part_is_left_out}
+use Rattle.irc_crossing.proofs.Examples.{kick_is_left_out, kill_is_followed, next_is_spared}
+use Rattle.irc_crossing.proofs.Examples.{part_is_left_out}
 use Rattle.irc_crossing.proofs.Examples.{text_is_left_out}
 use Rattle.irc_crossing.proofs.laws.crossing_lines.Goals as goal
 
