@@ -2,9 +2,11 @@
 ghost use Rattle.std.specs.Prelude.{◌≡◌, [], drop, length, nat_eq, OnOk, OnErr};
 ghost use Rattle.std.specs.Option.{option_copied};
 ghost use Rattle.irc_crossing.specs.Logs.{crossed_if, log_behind, means, means_in, member_behind};
+ghost use Rattle.irc_crossing.specs.Loops.Comers.{are_comers};
 ghost use Rattle.irc_crossing.specs.Logs.{is_first_read, nick_behind, put_out, through, unread};
 
 use crate::change::Change;
+use irc_names::same;
 use std::alloc::{AllocError, Global};
 use std::collections::VecDeque;
 use std::marker::Model;
@@ -197,9 +199,25 @@ fn pass_one(theirs: Option<Change>, ours: &mut Option<Change>) -> Option<Change>
     ensures became { result ≡ crossed_if theirs ours.old }
     ensures behind { ours.new ≡ crossed_if ours.old theirs }
 {
+    if are_comers(theirs.as_ref(), ours.as_ref()) {
+        return theirs;
+    }
     let became = crossed_if(theirs.as_ref(), ours.as_ref());
     *ours = crossed_if(ours.as_ref(), theirs.as_ref());
     became
+}
+
+/// Whether two users come under two nicknames: neither changes anything for the other. Where two
+/// sides are linked each tells of all of its own, so that most changes that cross are such.
+fn are_comers(one: Option<&Change>, other: Option<&Change>) -> bool
+    ensures { result ≡ are_comers (option_copied one.entry) (option_copied other.entry) }
+{
+    match (one, other) {
+        (Some(Change::Come(one)), Some(Change::Come(other))) => {
+            !same(one.as_bytes(), other.as_bytes()) && !same(other.as_bytes(), one.as_bytes())
+        }
+        _ => false,
+    }
 }
 
 fn crossed_if(one: Option<&Change>, other: Option<&Change>) -> Option<Change>
