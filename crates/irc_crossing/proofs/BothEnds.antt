@@ -6,10 +6,11 @@ use Rattle.std.specs.Option.{option_and_then, option_map_or, option_map}
 use Rattle.irc_names.specs.Fold.{key, same}
 use Rattle.irc_names.specs.FoldLaws.{same-tells}
 use Rattle.irc_crossing.specs.declared.change.Change.{Change}
-use Rattle.irc_crossing.specs.declared.change.Change.TheVariants.{Come, Rename, Go, Out}
+use Rattle.irc_crossing.specs.declared.change.Change.TheVariants.{Come, Rename, Go, Out, Set}
 use Rattle.irc_crossing.specs.Changes.{renamed_now}
 use Rattle.irc_crossing.specs.Changes.{crossed, is_gone, member_now}
-use Rattle.irc_crossing.specs.Changes.{gone_of, nick_now, taken_by}
+use Rattle.irc_crossing.specs.Changes.{gone_of, nick_now, setting_behind, taken_by}
+use Rattle.irc_crossing.specs.declared.setting.Setting.{Setting}
 use Rattle.irc_crossing.specs.Laws.{AreNames, AreOfTwo, IsPossible, MayGo, MayRename}
 use Rattle.irc_crossing.specs.Laws.{NewcomersAgree}
 use Rattle.irc_crossing.specs.Laws.{nick_after, nick_behind_both}
@@ -72,6 +73,34 @@ out_agrees ours out channel nick =
     same_then (nick_after (crossed (Out out channel) ours))
     (λ it. out_keeps channel it (member_now ours channel out)) (nick_now ours nick)
     ∙ behind_out ours out channel nick
+
+-- ---- what is set leaves nicknames as they are
+
+pub set_keeps : (nick : List ℕ) (setting : Option Setting)
+    → nick_after (option_map Set setting) nick ≡ Some nick
+set_keeps nick None = refl
+set_keeps nick (Some setting) = refl
+
+behind_set : (ours : Change) (setting : Setting) (nick : List ℕ)
+    → nick_now ours nick ≡ nick_after (crossed ours (Set setting)) nick
+behind_set (Come other) setting nick = refl
+behind_set (Rename old new) setting nick = by (same old new) refl
+  where
+    by : (b : Bool) → same old new ≡ b → nick_now (Rename old new) nick
+        ≡ nick_after (crossed (Rename old new) (Set setting)) nick
+    by true is = search (rules, is)
+    by false is = search (rules, is)
+behind_set (Go one None) setting nick = refl
+behind_set (Go one (Some other)) setting nick = refl
+behind_set (Out other from) setting nick = refl
+behind_set (Set other) setting nick = sym (set_keeps nick (setting_behind (Set setting) other))
+
+set_agrees : (ours : Change) (setting : Setting) (nick : List ℕ)
+    → nick_behind_both (Set setting) ours nick ≡ nick_behind_both ours (Set setting) nick
+set_agrees ours setting nick =
+    same_then (nick_after (crossed (Set setting) ours))
+    (λ it. set_keeps it (setting_behind ours setting)) (nick_now ours nick)
+    ∙ behind_set ours setting nick
 
 -- ---- where two come, or one does
 
@@ -532,6 +561,13 @@ pub both_nicks_agree : (here : List ℕ → Bool) (theirs ours : Change) → Are
     → nick_behind_both theirs ours nick ≡ nick_behind_both ours theirs nick
 both_nicks_agree here (Out out channel) ours names may other two n is =
     out_agrees ours out channel n
+both_nicks_agree here (Set setting) ours names may other two n is = set_agrees ours setting n
+both_nicks_agree here (Come a) (Set setting) names may other two n is =
+    sym (set_agrees (Come a) setting n)
+both_nicks_agree here (Rename o w) (Set setting) names may other two n is =
+    sym (set_agrees (Rename o w) setting n)
+both_nicks_agree here (Go x y) (Set setting) names may other two n is =
+    sym (set_agrees (Go x y) setting n)
 both_nicks_agree here (Come a) (Out out channel) names may other two n is =
     sym (out_agrees (Come a) out channel n)
 both_nicks_agree here (Rename o w) (Out out channel) names may other two n is =
@@ -599,3 +635,4 @@ newcomers_agree here a (Go x (Some y)) names free may =
     (free_of here names a x free may.one) (free_of here names a y free may.second)
 newcomers_agree here a (Out out channel) names free may =
     out_keeps channel a (member_now (Come a) channel out)
+newcomers_agree here a (Set setting) names free may = set_keeps a (setting_behind (Come a) setting)

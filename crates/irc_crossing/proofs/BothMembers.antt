@@ -5,10 +5,11 @@ use Rattle.std.proofs.Common.{◌∙◌, ap, if◌then◌else◌, rules, true≢
 use Rattle.std.specs.Option.{option_and_then, option_map}
 use Rattle.irc_names.specs.Fold.{same}
 use Rattle.irc_crossing.specs.declared.change.Change.{Change}
-use Rattle.irc_crossing.specs.declared.change.Change.TheVariants.{Come, Rename, Go, Out}
+use Rattle.irc_crossing.specs.declared.change.Change.TheVariants.{Come, Rename, Go, Out, Set}
 use Rattle.irc_crossing.specs.Changes.{member_now}
 use Rattle.irc_crossing.specs.Changes.{are_met, behind, crossed, is_gone}
-use Rattle.irc_crossing.specs.Changes.{gone_of, nick_now, taken_by}
+use Rattle.irc_crossing.specs.Changes.{gone_of, nick_now, setting_behind, taken_by}
+use Rattle.irc_crossing.specs.declared.setting.Setting.{Setting}
 use Rattle.irc_crossing.specs.Laws.{AreNames, BothEndsAgree, IsPossible, MayRename}
 use Rattle.irc_crossing.specs.Laws.{member_after, member_behind_both, nick_after, nick_behind_both}
 use Rattle.irc_crossing.proofs.BothEnds.{IsGoer, IsMover, both_nicks_agree, first_same}
@@ -54,6 +55,39 @@ of_all_then : (change : Option Change) (channel : List ℕ)
     ≡ option_and_then (nick_after change) nick
 of_all_then change channel of_all None = refl
 of_all_then change channel of_all (Some nick) = of_all nick
+
+-- ---- what is set leaves members as they are
+
+set_keeps_members : (channel nick : List ℕ) (setting : Option Setting)
+    → member_after (option_map Set setting) channel nick ≡ Some nick
+set_keeps_members channel nick None = refl
+set_keeps_members channel nick (Some setting) = refl
+
+behind_set_in : (ours : Change) (setting : Setting) (channel nick : List ℕ)
+    → member_now ours channel nick ≡ member_after (crossed ours (Set setting)) channel nick
+behind_set_in (Come other) setting channel nick = refl
+behind_set_in (Rename old new) setting channel nick = by (same old new) refl
+  where
+    by : (b : Bool) → same old new ≡ b → member_now (Rename old new) channel nick
+        ≡ member_after (crossed (Rename old new) (Set setting)) channel nick
+    by true is = search (rules, is)
+    by false is = search (rules, is)
+behind_set_in (Go one None) setting channel nick = refl
+behind_set_in (Go one (Some other)) setting channel nick = refl
+behind_set_in (Out other from) setting channel nick = refl
+behind_set_in (Set other) setting channel nick =
+    sym (set_keeps_members channel nick (setting_behind (Set setting) other))
+
+set_members_agree : (ours : Change) (setting : Setting) (channel nick : List ℕ)
+    → member_behind_both (Set setting) ours channel nick
+    ≡ member_behind_both ours (Set setting) channel nick
+set_members_agree ours setting channel nick =
+    all_stay (member_now ours channel nick) ∙ behind_set_in ours setting channel nick
+  where
+    all_stay : (it : Option (List ℕ))
+        → option_and_then (member_after (crossed (Set setting) ours) channel) it ≡ it
+    all_stay None = refl
+    all_stay (Some it) = set_keeps_members channel it (setting_behind ours setting)
 
 -- ---- one who is out of a channel, and another change
 
@@ -243,6 +277,15 @@ module _ (here : List ℕ → Bool) (names : AreNames here) (n : List ℕ) (is :
   members_agree (Out u c) (Rename o w) may other nicks = out_rename_agree u c o w may other
   members_agree (Out u c) (Go x y) may other nicks = out_go_agree u c x y
   members_agree (Out u c) (Out v d) may other nicks = out_out u c v d ch n
+  members_agree (Set setting) ours may other nicks = set_members_agree ours setting ch n
+  members_agree (Come a) (Set setting) may other nicks =
+      sym (set_members_agree (Come a) setting ch n)
+  members_agree (Rename o w) (Set setting) may other nicks =
+      sym (set_members_agree (Rename o w) setting ch n)
+  members_agree (Go x y) (Set setting) may other nicks =
+      sym (set_members_agree (Go x y) setting ch n)
+  members_agree (Out u c) (Set setting) may other nicks =
+      sym (set_members_agree (Out u c) setting ch n)
   members_agree (Come a) (Out u c) may other nicks = sym (out_come_agree u c a other may)
   members_agree (Rename o w) (Out u c) may other nicks = sym (out_rename_agree u c o w other may)
   members_agree (Go x y) (Out u c) may other nicks = sym (out_go_agree u c x y)

@@ -1,23 +1,26 @@
 -- Nicknames, by the first change of a log; and two who take one.
 use Rattle.std.proofs.Common.{◌≡◌, ℕ, Bool, true, false, ◌||◌, Option, Some, None, List, ◌∷◌, refl}
 use Rattle.std.proofs.Common.{sym}
-use Rattle.std.proofs.Common.{◌∙◌, ap, if◌then◌else◌, unwrap_or}
+use Rattle.std.proofs.Common.{◌∙◌, ap, if◌then◌else◌, unwrap_or, true≢false}
 use Rattle.std.specs.Option.{option_and_then, option_map_or}
 use Rattle.irc_line.specs.Messages.{Parsed}
 use Rattle.irc_names.specs.Fold.{same}
 use Rattle.irc_names.specs.FoldLaws.{same-tells}
 use Rattle.irc_names.specs.Names.{is_nick}
 use Rattle.irc_crossing.specs.declared.change.Change.{Change}
-use Rattle.irc_crossing.specs.declared.change.Change.TheVariants.{Come, Rename, Go, Out}
-use Rattle.irc_crossing.specs.declared.hearing.Given.TheVariants.{AsItCame}
+use Rattle.irc_crossing.specs.declared.change.Change.TheVariants.{Come, Rename, Go, Out, Set}
+use Rattle.irc_crossing.specs.declared.hearing.Given.TheVariants.{AsItCame, LeftOut}
 use Rattle.irc_crossing.specs.declared.log.Entry.{Entry}
+use Rattle.irc_crossing.specs.declared.modes.ChannelModes.{ChannelModes}
 use Rattle.irc_crossing.specs.Changes.{are_met, behind, both_go, crossed}
 use Rattle.irc_crossing.specs.Changes.{taken_by}
-use Rattle.irc_crossing.specs.Hearing.{doer_now, given_by, given_from, nick_given, read_given}
-use Rattle.irc_crossing.specs.Hearing.{word_now}
+use Rattle.irc_crossing.specs.Hearing.{doer_now, given_by, given_from, modes_by, nick_given}
+use Rattle.irc_crossing.specs.Hearing.{other_given, read_given, set_if, word_now, words_left}
+use Rattle.irc_crossing.specs.Letters.{letters_left}
 use Rattle.irc_crossing.specs.Laws.{ComersAreOthers, NamesAreFollowed, TakersAreOthers}
 use Rattle.irc_crossing.specs.Laws.{TwoToOneNameGo, WhoIsGoneIsLeftOut, put_out_in, taker}
-use Rattle.irc_crossing.specs.Lines.{change_of, is_part_line, word_at}
+use Rattle.irc_crossing.specs.Lines.{change_of, is_kick_line, is_part_line, is_topic_line}
+use Rattle.irc_crossing.specs.Lines.{modes_in, word_at}
 use Rattle.irc_crossing.specs.Logs.{means, means_in, through}
 
 same_self : (nick : List ℕ) → same nick nick ≡ true
@@ -71,16 +74,32 @@ module _ (piece : ℕ) (nick : List ℕ) (log : List Entry) where
             no_word (means_in gone_log (word_at 0 message)) (means_in_none (word_at 0 message))
         by false = no_word (means gone_log) means_none
 
+either_false : (a b : Bool) → (a || b) ≡ false → a ≡ false
+either_false true b is = is
+either_false false b is = refl
+
+second_false : (a b : Bool) → (a || b) ≡ false → b ≡ false
+second_false true b is = absurd (true≢false is)
+second_false false b is = is
+
 pub who_is_gone_is_left_out : WhoIsGoneIsLeftOut
-who_is_gone_is_left_out piece nick log line message read from is other is_held =
+who_is_gone_is_left_out piece nick log line message read from is other plain peer is_held =
     let gone = gone_log piece nick log in
-    ap (read_given gone is_held) read
+    let rest = second_false (is_kick_line message) _ plain in
+    ap (read_given gone peer is_held) read
+    ∙ ap (λ b. option_map_or (λ (modes : ChannelModes). modes_by message peer modes.channel
+    (letters_left modes.channel modes.changes gone) message.prefix)
+    (if b then modes_in message.params else None) (other_given gone peer is_held message))
+    (second_false (is_topic_line message) _ rest)
     ∙ ap (λ b. if b then option_map_or
     (λ (change : Change). nick_given is_held message (through (Some change) gone))
     (change_of message)
-    AsItCame else given_by gone message message.prefix) other
-    ∙ ap (given_by gone message) from
-    ∙ ap (given_from gone message) (no_doer piece nick log is message)
+    AsItCame else given_by gone peer is_held message message.prefix) other
+    ∙ ap (given_by gone peer is_held message) from
+    ∙ ap (given_from gone peer is_held message) (no_doer piece nick log is message)
+    ∙ ap (λ b. if b then set_if message peer (words_left gone message) else LeftOut)
+    ((λ i. either_false (is_kick_line message) _ plain i
+    || either_false (is_topic_line message) _ rest i))
 
 -- ---- two who take one nickname
 
@@ -103,6 +122,7 @@ goes (Rename nick other) new is = by (same nick other) refl
         (sym (ap (λ b. if b then None else Some other) apart) ∙ is)
 goes (Go nick other) new is = cc
 goes (Out nick channel) new is = cc
+goes (Set setting) new is = cc
 
 same_turned : (one other : List ℕ) → same one other ≡ true → same other one ≡ true
 same_turned one other is = (same-tells other one).1 (sym ((same-tells one other).0 is))

@@ -3,8 +3,7 @@ mod BothMembers
 mod Counting
 mod Examples
 mod Following
-mod KeptModes
-mod ModesGiven
+mod LettersPassed
 mod Nothing
 mod Passing
 mod Placing

@@ -1,7 +1,7 @@
--- What a line of a link changes of who has which nickname, and of who is in which channel; and what
--- becomes of a change that has crossed another one. Both ends of a link have the same users; each
--- does something, and then reads what the other did. Behind its own change and what becomes of the
--- other's, each has the same users again.
+-- What a line of a link changes of who has which nickname, of who is in which channel, and of what
+-- is set there (`Settings.antt`); and what becomes of a change that has crossed another one. Both
+-- ends of a link have the same users; each does something, and then reads what the other did. Behind
+-- its own change and what becomes of the other's, each has the same users again.
 --
 -- A user of a.net is al, one of b.net is bo; both write before they read.
 --   names are followed      a.net   :al NICK ally          b.net   :bo KICK #c al :out
@@ -18,9 +18,14 @@
 use Rattle.std.specs.Prelude.{ℕ, Bool, false, ◌&&◌, ◌||◌, Option, Some, None, List}
 use Rattle.std.specs.Prelude.{if◌then◌else◌}
 use Rattle.std.specs.Option.{option_and_then, option_map, option_map_or}
+use Rattle.irc_modes.specs.Letters.{names_member}
+use Rattle.irc_modes.specs.declared.modes.ModeChange.{ModeChange}
 use Rattle.irc_names.specs.Fold.{same}
 use Rattle.irc_crossing.specs.declared.change.Change.{Change}
-use Rattle.irc_crossing.specs.declared.change.Change.TheVariants.{Come, Rename, Go, Out}
+use Rattle.irc_crossing.specs.declared.change.Change.TheVariants.{Come, Rename, Go, Out, Set}
+use Rattle.irc_crossing.specs.declared.setting.Setting.{Setting}
+use Rattle.irc_crossing.specs.declared.setting.Setting.TheVariants.{Mode, Topic}
+use Rattle.irc_crossing.specs.Settings.{yields}
 
 -- the nickname that somebody has by a change, and had not before; another spelling is no other one
 abbrev pub taken_by : Change → Option (List ℕ)
@@ -28,6 +33,7 @@ taken_by (Come nick) = Some nick
 taken_by (Rename nick new) = if same nick new then None else Some new
 taken_by (Go nick other) = None
 taken_by (Out nick channel) = None
+taken_by (Set setting) = None
 
 -- the nickname now of whoever had this one, behind a change; none where it is gone
 abbrev pub renamed_now : (old new nick : List ℕ) → Option (List ℕ)
@@ -45,6 +51,7 @@ nick_now (Come taken) nick = if same taken nick then None else Some nick
 nick_now (Rename old new) nick = renamed_now old new nick
 nick_now (Go gone other) nick = if is_gone gone other nick then None else Some nick
 nick_now (Out out channel) nick = Some nick
+nick_now (Set setting) nick = Some nick
 
 -- the same of a member of a channel; none also where it is out of that
 abbrev pub member_now : Change → (channel nick : List ℕ) → Option (List ℕ)
@@ -53,6 +60,32 @@ member_now (Out out from) channel nick =
 member_now (Come taken) channel nick = nick_now (Come taken) nick
 member_now (Rename old new) channel nick = nick_now (Rename old new) nick
 member_now (Go gone other) channel nick = nick_now (Go gone other) nick
+member_now (Set setting) channel nick = Some nick
+
+-- ---- what is set
+
+-- a letter of a member, by that one's nickname now; none where that one is out of the channel
+abbrev pub mode_now : Change → (channel : List ℕ) → ModeChange → Option (List ℕ) → Option ModeChange
+mode_now ours channel change None = Some change
+mode_now ours channel change (Some word) =
+    option_map (λ now. record change { word = Some now }) (member_now ours channel word)
+
+abbrev pub setting_now : Change → Setting → Option Setting
+setting_now ours (Topic channel text) = Some (Topic channel text)
+setting_now ours (Mode channel change) =
+    if names_member change.letter
+    then option_map (λ now. Mode channel now) (mode_now ours channel change change.word)
+    else Some (Mode channel change)
+
+-- what becomes behind a change of what the other end has set beside it
+abbrev pub setting_behind : Change → Setting → Option Setting
+setting_behind (Set setting) theirs = if yields theirs setting then None else Some theirs
+setting_behind (Come nick) theirs = setting_now (Come nick) theirs
+setting_behind (Rename nick new) theirs = setting_now (Rename nick new) theirs
+setting_behind (Go nick other) theirs = setting_now (Go nick other) theirs
+setting_behind (Out nick channel) theirs = setting_now (Out nick channel) theirs
+
+-- ---- two changes
 
 -- whether two changes give one nickname to two users
 abbrev pub are_met : (theirs ours : Option (List ℕ)) → Bool
@@ -66,6 +99,7 @@ both_go (Come nick) = Go nick None
 both_go (Rename nick new) = Go new (Some nick)
 both_go (Go nick other) = Go nick other
 both_go (Out nick channel) = Out nick channel
+both_go (Set setting) = Set setting
 
 -- those of two who are there
 abbrev pub gone_of : (one other : Option (List ℕ)) → Option Change
@@ -81,6 +115,7 @@ behind (Go nick other) ours =
     gone_of (nick_now ours nick) (option_and_then (nick_now ours) other)
 behind (Out nick channel) ours =
     option_map (λ now. Out now channel) (member_now ours channel nick)
+behind (Set setting) ours = option_map Set (setting_behind ours setting)
 
 -- what becomes of a change of one end behind one of the other
 abbrev pub crossed : (theirs ours : Change) → Option Change

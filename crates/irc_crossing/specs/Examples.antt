@@ -1,7 +1,7 @@
 -- Lines of wire that cross: the examples of `Changes.antt`, `Logs.antt` and `Hearing.antt`.
 use Rattle.std.specs.Prelude.{◌≡◌, ℕ, suc, true, false, Some, None, List, [], ◌∷◌, ◌++◌, codes}
 use Rattle.irc_line.specs.Bytes.{crlf}
-use Rattle.irc_crossing.specs.Hearing.{change_told, given, log_after}
+use Rattle.irc_crossing.specs.Hearing.{given, log_after, logged_of}
 use Rattle.irc_crossing.specs.Logs.{put_out, unread}
 use Rattle.irc_crossing.specs.declared.change.Change.TheVariants.{Go, Rename}
 use Rattle.irc_crossing.specs.declared.hearing.Given.{Given}
@@ -11,11 +11,11 @@ use Rattle.irc_crossing.specs.declared.log.Entry.{Entry}
 -- the log of an end that has put out these lines, each in a piece of its own from a number on
 abbrev pub log_of : ℕ → List (List ℕ) → List Entry → List Entry
 log_of piece [] log = log
-log_of piece (line ∷ lines) log = log_of (suc piece) lines (put_out piece (change_told line) log)
+log_of piece (line ∷ lines) log = log_of (suc piece) lines (put_out piece (logged_of line) log)
 
 -- what a line is given as, where this one was put out
 abbrev pub given_after : (out line : List ℕ) → Given
-given_after out line = given (log_of 1 (out ∷ []) []) true line
+given_after out line = given (log_of 1 (out ∷ []) []) (codes "b.net") true line
 
 -- a line in place of the one that has come
 abbrev pub changed_to : List ℕ → Given
@@ -56,7 +56,7 @@ MetGoes = log_after (log_of 1 (codes ":al NICK zed" ∷ []) []) (codes ":bo NICK
 -- where who has taken it has yet another one by now, the server is told whom to kill
 abbrev pub MetIsKilled : Type 0
 MetIsKilled =
-    given (log_of 1 (codes ":al NICK zed" ∷ codes ":zed NICK zoe" ∷ []) []) false
+    given (log_of 1 (codes ":al NICK zed" ∷ codes ":zed NICK zoe" ∷ []) []) (codes "b.net") false
     (codes ":bo NICK zed")
     ≡ Kills (codes "zoe") (Some (codes "bo"))
 
@@ -65,7 +65,7 @@ MetIsKilled =
 -- those of somebody who is out of the channel are left out
 abbrev pub LetterIsLeftOut : Type 0
 LetterIsLeftOut = given_after (codes ":al PART #c :bye") (codes ":bo MODE #c +ol al 5")
-    ≡ changed_to (codes ":bo MODE #c +l :5")
+    ≡ changed_to (codes ":bo MODE #c +l 5")
 
 -- and the line, where none is left
 abbrev pub ModeIsLeftOut : Type 0
@@ -109,8 +109,8 @@ rob_comes = log_after bob_comes (codes ":bob NICK rob")
 -- who is killed goes on to another nickname and another one, and both times nothing is given
 pub record KilledIsFollowed : Type 0 where
   pub before : two_put_out ≡ two_of (codes "bo")
-  pub bob : given two_put_out false (codes ":bo NICK bob") ≡ LeftOut
+  pub bob : given two_put_out (codes "b.net") false (codes ":bo NICK bob") ≡ LeftOut
   pub log_bob : bob_comes ≡ two_of (codes "bob")
-  pub rob : given bob_comes false (codes ":bob NICK rob") ≡ LeftOut
+  pub rob : given bob_comes (codes "b.net") false (codes ":bob NICK rob") ≡ LeftOut
   pub log_rob : rob_comes ≡ two_of (codes "rob")
   pub read : unread 6 rob_comes ≡ []

@@ -9,28 +9,33 @@
 -- Of the letters of a MODE those are left out that are of no member any more.
 --   a.net has put out   :al PART #c :bye
 --   b.net writes        :bo MODE #c +ol al 5        becomes :bo MODE #c +l :5
-use Rattle.std.specs.Prelude.{ℕ, zero, suc, ◌-◌, Bool, true, false, ◌&&◌, Option, Some, None}
-use Rattle.std.specs.Prelude.{Result, Ok, Err, List, [], ◌∷◌, length, take, if◌then◌else◌}
-use Rattle.std.specs.List.{list_all, slice_get}
+use Rattle.std.specs.Prelude.{ℕ, zero, suc, ◌-◌, Bool, true, false, ◌&&◌, ◌||◌, Option, Some, None}
+use Rattle.std.specs.Prelude.{Result, Ok, Err, List, [], ◌∷◌, length, take, is_some, nat_eq}
+use Rattle.std.specs.Prelude.{if◌then◌else◌}
+use Rattle.std.specs.List.{slice_get}
 use Rattle.std.specs.Option.{is_none, option_map, option_map_or}
 use Rattle.std.specs.Cmp.Lexicographic.{pointwise}
 use Rattle.std.specs.Str.{bytes_eq}
 use Rattle.irc_line.specs.declared.reading.LineFault.{LineFault}
 use Rattle.irc_line.specs.Messages.{Parsed, Sender, Written, nobody, named, text}
 use Rattle.irc_line.specs.Reading.{read_of}
+use Rattle.irc_modes.specs.declared.modes.ModeChange.{ModeChange}
 use Rattle.irc_names.specs.Fold.{same}
-use Rattle.irc_names.specs.Names.{is_nick}
-use Rattle.irc_link_words.specs.Words.{is_for_channel}
+use Rattle.irc_names.specs.Names.{is_channel, is_nick}
+use Rattle.irc_link_words.specs.Words.{is_marked, unmarked}
+use Rattle.irc_burst_lines.specs.DeedLines.{mode_parts}
 use Rattle.irc_crossing.specs.declared.change.Change.{Change}
-use Rattle.irc_crossing.specs.declared.change.Change.TheVariants.{Come, Rename, Go, Out}
+use Rattle.irc_crossing.specs.declared.change.Change.TheVariants.{Come, Rename, Go, Out, Set}
 use Rattle.irc_crossing.specs.declared.hearing.Given.{Given}
 use Rattle.irc_crossing.specs.declared.hearing.Given.TheVariants.{AsItCame, Changed, LeftOut}
-use Rattle.irc_crossing.specs.declared.hearing.Given.TheVariants.{Kills}
+use Rattle.irc_crossing.specs.declared.hearing.Given.TheVariants.{Brings, Kills, Sets}
 use Rattle.irc_crossing.specs.declared.log.Entry.{Entry}
+use Rattle.irc_crossing.specs.declared.modes.ChannelModes.{ChannelModes}
+use Rattle.irc_crossing.specs.Letters.{letters_left, LettersLeft}
 use Rattle.irc_crossing.specs.Logs.{log_behind, means_as, through}
-use Rattle.irc_crossing.specs.Lines.{change_of, has_word, is_for_somebody, is_kick_line}
-use Rattle.irc_crossing.specs.Lines.{is_mode_line, is_nick_line, is_part_line, is_sign}
-use Rattle.irc_crossing.specs.Lines.{names_member, plus_behind, word_at}
+use Rattle.irc_crossing.specs.Lines.{change_of, channel_modes, is_for_somebody, is_join_line}
+use Rattle.irc_crossing.specs.Lines.{is_kick_line, is_nick_line, is_part_line, is_topic_line}
+use Rattle.irc_crossing.specs.Lines.{logged, word_at}
 
 -- ---- nicknames in a line
 
@@ -47,63 +52,22 @@ words_now_at zero now (word ∷ words) = option_map (λ it. it ∷ words) (word_
 words_now_at (suc place) now (word ∷ words) =
     option_map (λ more. word ∷ more) (words_now_at place now words)
 
--- ---- the letters of a MODE
-
--- letters, and the words behind them
-pub record ModesLeft : Type 0 where
-  pub letters : List ℕ
-  pub words : List (List ℕ)
-
--- one letter more in front
-abbrev pub with_letter : ℕ → ModesLeft → ModesLeft
-with_letter letter modes = record modes { letters = letter ∷ modes.letters }
-
--- one letter more with its word, unless that is of nobody any more
-abbrev pub with_worded : ℕ → Option (List ℕ) → ModesLeft → ModesLeft
-with_worded letter None modes = modes
-with_worded letter (Some word) modes =
-    record { letters = letter ∷ modes.letters; words = word ∷ modes.words }
-
--- the word of a letter, where `now` says what becomes of a member
-abbrev pub letter_word : (List ℕ → Option (List ℕ)) → ℕ → List ℕ → Option (List ℕ)
-letter_word now letter word = if names_member letter then word_now now word else Some word
-
--- what is left of letters and words; letters that lack their words, and words that no letter has,
--- stay
-abbrev pub modes_now : (List ℕ → Option (List ℕ)) → Bool → List ℕ → List (List ℕ) → ModesLeft
-modes_now now plus [] words = record { letters = []; words = words }
-modes_now now plus (letter ∷ letters) [] =
-    with_letter letter (modes_now now (plus_behind plus letter) letters [])
-modes_now now plus (letter ∷ letters) (word ∷ words) =
-    if has_word plus letter
-    then with_worded letter (letter_word now letter word) (modes_now now plus letters words)
-    else with_letter letter
-    (modes_now now (plus_behind plus letter) letters (word ∷ words))
-
--- the parameters of a MODE of a channel, of which no letter may be left
-abbrev pub modes_left : List ℕ → ModesLeft → Option (List (List ℕ))
-modes_left channel modes =
-    if list_all is_sign modes.letters then None
-    else Some (channel ∷ modes.letters ∷ modes.words)
-
-abbrev pub mode_words_now : List Entry → List (List ℕ) → Option (List (List ℕ))
-mode_words_now log (channel ∷ letters ∷ words) =
-    if is_for_channel channel
-    then (if list_all is_sign letters then Some (channel ∷ letters ∷ words)
-    else modes_left channel (modes_now (means_as log (Some channel)) true letters words))
-    else words_now_at 0 (means_as log None) (channel ∷ letters ∷ words)
-mode_words_now log params = Some params
-
 -- ---- a line that is no NICK
 
--- the parameters of a line; none where whom it is for is gone
+-- whether what a line sets is left: a topic is, where this end has set no greater one
+abbrev pub stays : List Entry → Parsed → Bool
+stays log message =
+    if is_topic_line message
+    then option_map_or (λ change. is_some (through (Some change) log)) (change_of message) true
+    else true
+
+-- the parameters of a line; none where whom it is for is gone, or what it sets is not left
 abbrev pub words_left : List Entry → Parsed → Option (List (List ℕ))
 words_left log message =
     if is_kick_line message
     then words_now_at 1 (means_as log (Some (word_at 0 message))) message.params
     else (if is_for_somebody message then words_now_at 0 (means_as log None) message.params
-    else (if is_mode_line message then mode_words_now log message.params
-    else Some message.params))
+    else (if stays log message then Some message.params else None))
 
 -- Who a line is from: none where that one is gone, or parts with a channel that it is out of. A
 -- server stays who it is.
@@ -142,13 +106,70 @@ abbrev pub given_if : Parsed → Option (List ℕ) → Option (List (List ℕ)) 
 given_if message prefix None = LeftOut
 given_if message prefix (Some params) = given_with message prefix params
 
-abbrev pub given_from : List Entry → Parsed → Option (List ℕ) → Given
-given_from log message None = LeftOut
-given_from log message (Some doer) = given_if message (Some doer) (words_left log message)
+-- What somebody does who is gone here: a KICK and a TOPIC are done as by the server at the other
+-- end, nothing else is.
+--   a.net has put out   :a.net KILL bo :..     b.net writes   :bo TOPIC #c :x
+--   a.net does          :b.net TOPIC #c :x
+abbrev pub set_if : Parsed → (peer : List ℕ) → Option (List (List ℕ)) → Given
+set_if message peer None = LeftOut
+set_if message peer (Some params) =
+    Sets (record { items = text (written_with (Some peer) message params) })
 
-abbrev pub given_by : List Entry → Parsed → Option (List ℕ) → Given
-given_by log message None = given_if message None (words_left log message)
-given_by log message (Some doer) = given_from log message (doer_now log message doer)
+abbrev pub set_given : List Entry → (peer : List ℕ) → Parsed → Given
+set_given log peer message =
+    if is_kick_line message || is_topic_line message
+    then set_if message peer (words_left log message) else LeftOut
+
+-- Somebody has begun a channel that is here as well. A JOIN would not show that the user is an
+-- operator, and leave the channel's name as it is.
+--   a.net has put out   :al JOIN #c\7o         b.net writes   :bo JOIN #C\7o
+--   a.net does          :b.net NJOIN #C :@bo
+abbrev pub brought : Parsed → List ℕ → Given
+brought message doer =
+    if is_marked (word_at 0 message)
+    then (if is_nick doer && is_channel (unmarked (word_at 0 message))
+    then Brings doer (unmarked (word_at 0 message))
+    else given_with message (Some doer) message.params)
+    else given_with message (Some doer) message.params
+
+abbrev pub given_from : List Entry → (peer : List ℕ) → Bool → Parsed → Option (List ℕ) → Given
+given_from log peer is_held message None = set_given log peer message
+given_from log peer is_held message (Some doer) =
+    if is_held && is_join_line message then brought message doer
+    else given_if message (Some doer) (words_left log message)
+
+abbrev pub given_by : List Entry → (peer : List ℕ) → Bool → Parsed → Option (List ℕ) → Given
+given_by log peer is_held message None = given_if message None (words_left log message)
+given_by log peer is_held message (Some doer) =
+    given_from log peer is_held message (doer_now log message doer)
+
+-- ---- MODE of a channel
+
+abbrev pub is_nothing : List ModeChange → Bool
+is_nothing [] = true
+is_nothing (change ∷ changes) = false
+
+-- by what is left of its letters; as it came, where all are as they were
+abbrev pub modes_given : Parsed → (doer channel : List ℕ) → LettersLeft → Given
+modes_given message doer channel left =
+    if left.are_all && is_same_prefix (Some doer) message.prefix then AsItCame
+    else (if is_nothing left.changes then LeftOut
+    else Changed (record { items = text (mode_parts doer channel left.changes) }))
+
+-- of somebody who is gone, as by the server at the other end
+abbrev pub mode_set : (peer channel : List ℕ) → LettersLeft → Given
+mode_set peer channel left =
+    if is_nothing left.changes then LeftOut
+    else Sets (record { items = text (mode_parts peer channel left.changes) })
+
+abbrev pub modes_from : Parsed → (peer channel : List ℕ) → LettersLeft → Option (List ℕ) → Given
+modes_from message peer channel left None = mode_set peer channel left
+modes_from message peer channel left (Some doer) = modes_given message doer channel left
+
+abbrev pub modes_by : Parsed → (peer channel : List ℕ) → LettersLeft → Option (List ℕ) → Given
+modes_by message peer channel left None = given_with message None message.params
+modes_by message peer channel left (Some doer) =
+    modes_from message peer channel left (doer_now left.log message doer)
 
 -- ---- a NICK
 
@@ -172,49 +193,55 @@ nick_given is_held message (Some (Rename nick new)) =
     given_with message (Some nick) message.params
 nick_given is_held message (Some (Go nick other)) = met_given is_held message nick other
 nick_given is_held message (Some (Out nick channel)) = LeftOut
+nick_given is_held message (Some (Set setting)) = LeftOut
 
 -- ---- any line
 
 -- a NICK of which a word is no nickname is for the server to refuse
-abbrev pub message_given : List Entry → Bool → Parsed → Given
-message_given log is_held message =
+abbrev pub other_given : List Entry → (peer : List ℕ) → Bool → Parsed → Given
+other_given log peer is_held message =
     if is_nick_line message
     then option_map_or (λ change. nick_given is_held message (through (Some change) log))
     (change_of message) AsItCame
-    else given_by log message message.prefix
+    else given_by log peer is_held message message.prefix
 
-abbrev pub read_given : List Entry → Bool → Result Parsed LineFault → Given
-read_given log is_held (Ok message) = message_given log is_held message
-read_given log is_held (Err fault) = AsItCame
+abbrev pub message_given : List Entry → (peer : List ℕ) → Bool → Parsed → Given
+message_given log peer is_held message =
+    option_map_or (λ (modes : ChannelModes). modes_by message peer modes.channel
+    (letters_left modes.channel modes.changes log) message.prefix)
+    (channel_modes message) (other_given log peer is_held message)
 
--- what the server is given for a line
-abbrev pub given : List Entry → Bool → List ℕ → Given
-given log is_held line = read_given log is_held (read_of line)
+abbrev pub read_given : List Entry → (peer : List ℕ) → Bool → Result Parsed LineFault → Given
+read_given log peer is_held (Ok message) = message_given log peer is_held message
+read_given log peer is_held (Err fault) = AsItCame
+
+-- What the server is given for a line: `peer` is the server at the other end, and `is_held` is
+-- whether what the line brings is there already. Behind an empty log it is given as it came.
+abbrev pub given_past : Bool → List Entry → (peer : List ℕ) → Bool → List ℕ → Given
+given_past true log peer is_held line = AsItCame
+given_past false log peer is_held line = read_given log peer is_held (read_of line)
+
+abbrev pub given : List Entry → (peer : List ℕ) → Bool → List ℕ → Given
+given log peer is_held line = given_past (nat_eq (length log) 0) log peer is_held line
 
 -- ---- the log behind it
 
--- whether somebody who is gone here kicks: it is left out
-abbrev pub is_by_nobody : List Entry → Parsed → Bool
-is_by_nobody log message = is_kick_line message
-    && option_map_or (λ doer. is_none (doer_now log message doer)) message.prefix false
-
--- what the line changes, of what is done of it here
-abbrev pub change_heard : List Entry → Parsed → Option Change
-change_heard log message =
-    if is_nick_line message then change_of message
-    else (if is_by_nobody log message then None else change_of message)
+abbrev pub log_after_message : List Entry → Parsed → List Entry
+log_after_message log message =
+    option_map_or (λ (modes : ChannelModes). (letters_left modes.channel modes.changes log).log)
+    (channel_modes message) (log_behind (change_of message) log)
 
 abbrev pub log_after_read : List Entry → Result Parsed LineFault → List Entry
-log_after_read log (Ok message) = log_behind (change_heard log message) log
+log_after_read log (Ok message) = log_after_message log message
 log_after_read log (Err fault) = log
 
 abbrev pub log_after : List Entry → List ℕ → List Entry
 log_after log line = log_after_read log (read_of line)
 
--- what a line changes that this end puts out
-abbrev pub change_in : Result Parsed LineFault → Option Change
-change_in (Ok message) = change_of message
-change_in (Err fault) = None
+-- what is logged of a line that this end puts out
+abbrev pub logged_in : Result Parsed LineFault → List (Option Change)
+logged_in (Ok message) = logged message
+logged_in (Err fault) = []
 
-abbrev pub change_told : List ℕ → Option Change
-change_told line = change_in (read_of line)
+abbrev pub logged_of : List ℕ → List (Option Change)
+logged_of line = logged_in (read_of line)

@@ -1,5 +1,5 @@
 -- What holds of lines that cross, whatever is in the log and whatever comes.
-use Rattle.std.specs.Prelude.{◌≡◌, ℕ, Bool, true, false, Option, Some, None, Ok}
+use Rattle.std.specs.Prelude.{◌≡◌, ℕ, Bool, true, false, ◌||◌, Option, Some, None, Ok}
 use Rattle.std.specs.Prelude.{List, [], ◌∷◌}
 use Rattle.std.specs.Bool.{⊤}
 use Rattle.std.specs.Option.{option_and_then, option_map_or}
@@ -9,10 +9,10 @@ use Rattle.irc_names.specs.Fold.{same}
 use Rattle.irc_names.specs.Names.{is_nick}
 use Rattle.irc_crossing.specs.Changes.{crossed, member_now, nick_now, taken_by}
 use Rattle.irc_crossing.specs.Hearing.{given, log_after}
-use Rattle.irc_crossing.specs.Lines.{is_nick_line}
+use Rattle.irc_crossing.specs.Lines.{is_kick_line, is_mode_line, is_nick_line, is_topic_line}
 use Rattle.irc_crossing.specs.Logs.{means}
 use Rattle.irc_crossing.specs.declared.change.Change.{Change}
-use Rattle.irc_crossing.specs.declared.change.Change.TheVariants.{Come, Rename, Go, Out}
+use Rattle.irc_crossing.specs.declared.change.Change.TheVariants.{Come, Rename, Go, Out, Set}
 use Rattle.irc_crossing.specs.declared.hearing.Given.TheVariants.{AsItCame, LeftOut}
 use Rattle.irc_crossing.specs.declared.log.Entry.{Entry}
 
@@ -20,7 +20,8 @@ use Rattle.irc_crossing.specs.declared.log.Entry.{Entry}
 
 -- Each line is given as it came,
 abbrev pub NothingIsChanged : Type 0
-NothingIsChanged = (is_held : Bool) (line : List ℕ) → given [] is_held line ≡ AsItCame
+NothingIsChanged =
+    (peer : List ℕ) (is_held : Bool) (line : List ℕ) → given [] peer is_held line ≡ AsItCame
 
 -- and the log stays empty.
 abbrev pub NothingIsLogged : Type 0
@@ -48,13 +49,18 @@ TakersAreOthers =
     (piece : ℕ) (old new : List ℕ) (log : List Entry) → same old new ≡ false
     → means (put_out_in piece (Rename old new) ∷ log) new ≡ None
 
--- What somebody does who is gone is left out, where it is no NICK.
+-- Whether a line is one of those that are done for somebody who is gone.
+abbrev pub is_done_for : Parsed → Bool
+is_done_for message = is_kick_line message || (is_topic_line message || is_mode_line message)
+
+-- What somebody does who is gone is left out, where it is no NICK, and none of those.
 abbrev pub WhoIsGoneIsLeftOut : Type 0
 WhoIsGoneIsLeftOut =
     (piece : ℕ) (nick : List ℕ) (log : List Entry) (line : List ℕ) (message : Parsed)
     → read_of line ≡ Ok message → message.prefix ≡ Some nick → is_nick nick ≡ true
-    → is_nick_line message ≡ false → (is_held : Bool)
-    → given (put_out_in piece (Go nick None) ∷ log) is_held line ≡ LeftOut
+    → is_nick_line message ≡ false → is_done_for message ≡ false
+    → (peer : List ℕ) (is_held : Bool)
+    → given (put_out_in piece (Go nick None) ∷ log) peer is_held line ≡ LeftOut
 
 -- ---- two who take one nickname
 
@@ -64,6 +70,7 @@ taker (Come nick) = None
 taker (Rename nick new) = Some nick
 taker (Go nick other) = None
 taker (Out nick channel) = None
+taker (Set setting) = None
 
 -- Both go at each end: who has it there by then, and who was to take it.
 pub record BothGo (theirs ours : Change) (their_new our_new : List ℕ) : Type 0 where
@@ -98,6 +105,7 @@ IsPossible here (Come nick) = here nick ≡ false
 IsPossible here (Rename nick new) = MayRename here nick new
 IsPossible here (Go nick other) = MayGo here nick other
 IsPossible here (Out nick channel) = here nick ≡ true
+IsPossible here (Set setting) = ⊤
 
 -- one end alone gives a user another nickname
 abbrev pub AreOfTwo : (theirs ours : Change) → Type 0
@@ -105,9 +113,11 @@ AreOfTwo (Rename one new) (Rename other second) = same one other ≡ false
 AreOfTwo (Rename one new) (Come nick) = ⊤
 AreOfTwo (Rename one new) (Go nick other) = ⊤
 AreOfTwo (Rename one new) (Out nick channel) = ⊤
+AreOfTwo (Rename one new) (Set setting) = ⊤
 AreOfTwo (Come nick) ours = ⊤
 AreOfTwo (Go nick other) ours = ⊤
 AreOfTwo (Out nick channel) ours = ⊤
+AreOfTwo (Set setting) ours = ⊤
 
 -- the nickname behind what is left of a change
 abbrev pub nick_after : Option Change → List ℕ → Option (List ℕ)

@@ -1,12 +1,15 @@
 -- What a line of a link changes (RFC 2813 section 4), and the nicknames in it.
-use Rattle.std.specs.Prelude.{ℕ, Bool, true, false, ◌&&◌, ◌||◌, Option, Some, None, List, []}
-use Rattle.std.specs.Prelude.{codes, get_or, nat_eq, if◌then◌else◌}
-use Rattle.std.specs.Option.{option_and_then}
+use Rattle.std.specs.Prelude.{ℕ, Bool, true, false, ◌&&◌, ◌||◌, Option, Some, None, List, [], ◌∷◌}
+use Rattle.std.specs.Prelude.{codes, get_or, map, option_to_list, if◌then◌else◌}
+use Rattle.std.specs.Option.{option_and_then, option_map, option_map_or}
 use Rattle.irc_line.specs.Messages.{Parsed}
 use Rattle.irc_names.specs.Names.{is_channel, is_nick}
-use Rattle.irc_link_words.specs.Words.{is_command}
+use Rattle.irc_link_words.specs.Words.{are_words, is_command, told_changes}
 use Rattle.irc_crossing.specs.declared.change.Change.{Change}
-use Rattle.irc_crossing.specs.declared.change.Change.TheVariants.{Come, Rename, Go, Out}
+use Rattle.irc_crossing.specs.declared.change.Change.TheVariants.{Come, Rename, Go, Out, Set}
+use Rattle.irc_crossing.specs.declared.modes.ChannelModes.{ChannelModes}
+use Rattle.irc_crossing.specs.declared.setting.Setting.TheVariants.{Topic}
+use Rattle.irc_crossing.specs.Letters.{set_mode}
 
 -- a word of a line; no bytes where the line has fewer
 abbrev pub word_at : ℕ → Parsed → List ℕ
@@ -30,11 +33,20 @@ is_part_line message = is_command (codes "PART") message.command
 abbrev pub is_quit_line : Parsed → Bool
 is_quit_line message = is_command (codes "QUIT") message.command
 
--- whether the first parameter of a command is whom it is for
+abbrev pub is_topic_line : Parsed → Bool
+is_topic_line message = is_command (codes "TOPIC") message.command
+
+abbrev pub is_join_line : Parsed → Bool
+is_join_line message = is_command (codes "JOIN") message.command
+
+abbrev pub is_njoin_line : Parsed → Bool
+is_njoin_line message = is_command (codes "NJOIN") message.command
+
+-- whether the first parameter of a command is whom it is for, if that is a user
 abbrev pub is_for_somebody : Parsed → Bool
 is_for_somebody message = is_kill_line message || (is_command (codes "INVITE") message.command
     || (is_command (codes "PRIVMSG") message.command
-    || is_command (codes "NOTICE") message.command))
+    || (is_command (codes "NOTICE") message.command || is_mode_line message)))
 
 -- ---- what it changes; nothing where a word is no name
 
@@ -50,6 +62,10 @@ go_of nick = if is_nick nick then Some (Go nick None) else None
 abbrev pub out_of : (nick channel : List ℕ) → Option Change
 out_of nick channel = if is_nick nick && is_channel channel then Some (Out nick channel) else None
 
+abbrev pub topic_of : (channel text : List ℕ) → Option Change
+topic_of channel text =
+    if is_channel channel && are_words text then Some (Set (Topic channel text)) else None
+
 -- A NICK without a prefix introduces a user, and one with a prefix is a change of its nickname.
 abbrev pub nick_change : Option (List ℕ) → List ℕ → Option Change
 nick_change None word = come_of word
@@ -63,23 +79,28 @@ change_of message =
     else (if is_part_line message
     then option_and_then (λ nick. out_of nick (word_at 0 message)) message.prefix
     else (if is_kick_line message then out_of (word_at 1 message) (word_at 0 message)
-    else None))))
+    else (if is_topic_line message then topic_of (word_at 0 message) (word_at 1 message)
+    else None)))))
 
--- ---- the letters of a MODE of a channel (RFC 2811 section 4)
+-- ---- MODE of a channel (RFC 2811 section 4)
 
-abbrev pub is_sign : ℕ → Bool
-is_sign letter = nat_eq letter 0x2b || nat_eq letter 0x2d
+-- what its words change, where they are written as changes are
+abbrev pub modes_in : List (List ℕ) → Option ChannelModes
+modes_in [] = None
+modes_in (channel ∷ words) =
+    if is_channel channel
+    then option_map (λ changes. record { channel = channel; changes = changes }) (told_changes words)
+    else None
 
--- whether a letter has a word behind the sign, and whether that is a member's nickname: `k`, `b`,
--- `o` and `v` always, `l` where it is set
-abbrev pub names_member : ℕ → Bool
-names_member letter = nat_eq letter 0x6f || nat_eq letter 0x76
+abbrev pub channel_modes : Parsed → Option ChannelModes
+channel_modes message = if is_mode_line message then modes_in message.params else None
 
-abbrev pub has_word : Bool → ℕ → Bool
-has_word plus letter = names_member letter
-    || (nat_eq letter 0x6b || (nat_eq letter 0x62 || (plus && nat_eq letter 0x6c)))
+-- ---- what is logged of a line: each thing that it changes
 
--- whether the letters behind one are set
-abbrev pub plus_behind : Bool → ℕ → Bool
-plus_behind plus letter =
-    if nat_eq letter 0x2b then true else (if nat_eq letter 0x2d then false else plus)
+-- Of a JOIN and an NJOIN nothing is to be passed by what comes, but that it was put out: a channel
+-- may have begun by it.
+abbrev pub logged : Parsed → List (Option Change)
+logged message =
+    if is_join_line message || is_njoin_line message then None ∷ []
+    else option_map_or (λ (modes : ChannelModes). map (set_mode modes.channel) modes.changes)
+    (map (λ change. Some change) (option_to_list (change_of message))) (channel_modes message)

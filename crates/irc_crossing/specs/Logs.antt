@@ -9,7 +9,7 @@
 --   :bob NICK rob               nothing again, and 6 is Go rob
 --   COUNT 6 0                   both are read, and the log is empty
 use Rattle.std.specs.Prelude.{ℕ, Bool, false, Option, Some, None, List, [], ◌∷◌, ◌++◌, nat_le}
-use Rattle.std.specs.Prelude.{if◌then◌else◌}
+use Rattle.std.specs.Prelude.{map, if◌then◌else◌}
 use Rattle.std.specs.Option.{option_and_then, option_map_or}
 use Rattle.irc_crossing.specs.declared.change.Change.{Change}
 use Rattle.irc_crossing.specs.declared.log.Entry.{Entry}
@@ -56,10 +56,9 @@ abbrev pub means_as : List Entry → Option (List ℕ) → List ℕ → Option (
 means_as log None = means log
 means_as log (Some channel) = means_in log channel
 
--- A piece is put out, and changes this, if anything.
-abbrev pub put_out : ℕ → Option Change → List Entry → List Entry
-put_out piece None log = log
-put_out piece (Some change) log = log ++ (record { piece = piece; change = Some change }) ∷ []
+-- A piece is put out, and so much is to be passed by what comes.
+abbrev pub put_out : ℕ → List (Option Change) → List Entry → List Entry
+put_out piece changes log = log ++ map (λ change. record { piece = piece; change = change }) changes
 
 -- whether the first change of a log is read, once so many pieces are
 abbrev pub is_first_read : ℕ → List Entry → Bool

@@ -1,4 +1,4 @@
 pub mod Comers
 pub mod Hearings
-pub mod Modes
+pub mod LettersLeft
 pub mod Standings

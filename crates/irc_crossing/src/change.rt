@@ -1,13 +1,17 @@
-//! What a line changes of who has which nickname, and of who is in which channel.
+//! What a line changes of who has which nickname, of who is in which channel, and of what is set
+//! there.
 ghost use Rattle.std.specs.Prelude.{◌≡◌};
 ghost use Rattle.std.specs.Option.{option_and_then, option_copied};
 ghost use Rattle.irc_crossing.specs.Changes.{are_met, behind, both_go, crossed, gone_of, is_gone};
-ghost use Rattle.irc_crossing.specs.Changes.{member_now, nick_now, renamed_now, taken_by};
+ghost use Rattle.irc_crossing.specs.Changes.{member_now, mode_now, nick_now, renamed_now};
+ghost use Rattle.irc_crossing.specs.Changes.{setting_behind, setting_now, taken_by};
 ghost use Rattle.irc_crossing.specs.Loops.Standings.{name_of};
 
+use crate::setting::Setting;
+use irc_modes::{ModeChange, ModeWord};
 use irc_names::{ChannelName, Nick, same};
 
-/// A change of who has which nickname, or of who is in which channel.
+/// A change of who has which nickname, of who is in which channel, or of what is set there.
 #[derive(Drop)]
 pub enum Change {
     /// A user comes: `NICK al 1 u h 1 + :Al`.
@@ -33,6 +37,8 @@ pub enum Change {
         /// Which channel.
         channel: ChannelName,
     },
+    /// Something is set in a channel: a letter of `:al MODE #c +k x`, or `:al TOPIC #c :hello`.
+    Set(Setting),
 }
 
 /// What has become of whoever had a nickname.
@@ -119,6 +125,7 @@ impl Change {
                 nick: nick.copy(),
                 channel: channel.copy(),
             },
+            Change::Set(setting) => Change::Set(setting.copy()),
         }
     }
 
@@ -159,6 +166,51 @@ impl Change {
                 let channel = channel.copy();
                 Some(Change::Out { nick, channel })
             }
+            Change::Set(setting) => Some(Change::Set(other.setting_behind(setting)?)),
+        }
+    }
+
+    /// What becomes behind it of what the other end has set beside it.
+    fn setting_behind(&self, theirs: &Setting) -> Option<Setting>
+        ensures { result ≡ setting_behind self.now theirs.now }
+    {
+        match self {
+            Change::Set(setting) if theirs.yields(setting) => None,
+            Change::Set(_) => Some(theirs.copy()),
+            _ => self.setting_now(theirs),
+        }
+    }
+
+    /// A setting with the nickname now of the member whom it is of, if it is of one; none where
+    /// that one is out of the channel.
+    fn setting_now(&self, setting: &Setting) -> Option<Setting>
+        ensures { result ≡ setting_now self.now setting.now }
+    {
+        match setting {
+            Setting::Mode { channel, change } if change.letter.names_member() => {
+                let change = self.mode_now(channel, change)?;
+                let channel = channel.copy();
+                Some(Setting::Mode { channel, change })
+            }
+            other => Some(other.copy()),
+        }
+    }
+
+    /// The same of a letter of a member.
+    fn mode_now(&self, channel: &ChannelName, change: &ModeChange) -> Option<ModeChange>
+        ensures { result ≡ mode_now self.now channel.now change.now change.now.word }
+    {
+        let Some(word) = change.word_bytes() else {
+            return Some(change.copy());
+        };
+        match self.standing_in(channel.as_bytes(), word) {
+            Standing::Stays => Some(change.copy()),
+            Standing::Renamed(new) => Some(ModeChange {
+                plus: change.plus,
+                letter: change.letter,
+                word: ModeWord::read(new.as_bytes()),
+            }),
+            Standing::Gone => None,
         }
     }
 

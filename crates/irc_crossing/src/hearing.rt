@@ -1,33 +1,37 @@
 //! What becomes of a line that comes by a link.
-ghost use Rattle.std.specs.Prelude.{◌≡◌, ◌-◌, ◌+◌, ◌≤◌, ◌&&◌, ◌∷◌, drop, length, slice_get, take};
+ghost use Rattle.std.specs.Prelude.{◌≡◌, ◌-◌, ◌≤◌, length, slice_get, take, IfOk, OnOk};
 ghost use Rattle.std.specs.Cmp.Lexicographic.{pointwise};
-ghost use Rattle.std.specs.Option.{option_copied, option_map_or};
+ghost use Rattle.std.specs.Option.{option_copied, option_map, option_map_or};
 ghost use Rattle.std.specs.Str.{bytes_eq};
 ghost use Rattle.irc_line.specs.Limits.{max_parameters};
 ghost use Rattle.irc_line.specs.MessageViews.{optional_now, params_now, parsed};
 ghost use Rattle.irc_line.specs.Messages.{text};
 ghost use Rattle.irc_line.specs.PartViews.{sender, words_now};
-ghost use Rattle.irc_crossing.specs.Hearing.{change_heard, doer_now, given, given_by};
-ghost use Rattle.irc_crossing.specs.Hearing.{given_if, given_with, is_by_nobody, is_same_prefix};
-ghost use Rattle.irc_crossing.specs.Hearing.{log_after, message_given, met_given, mode_words_now};
-ghost use Rattle.irc_crossing.specs.Hearing.{modes_left, words_now_at, ModesLeft};
-ghost use Rattle.irc_crossing.specs.Hearing.{nick_given, sender_again, word_now, words_left};
-ghost use Rattle.irc_crossing.specs.Hearing.{written_with};
+ghost use Rattle.irc_crossing.specs.Hearing.{brought, doer_now, given, given_by, given_from};
+ghost use Rattle.irc_crossing.specs.Hearing.{given_if, given_with, is_same_prefix, log_after};
+ghost use Rattle.irc_crossing.specs.Hearing.{log_after_message, message_given, met_given};
+ghost use Rattle.irc_crossing.specs.Hearing.{mode_set, modes_by, modes_from, modes_given};
+ghost use Rattle.irc_crossing.specs.Hearing.{nick_given, sender_again, set_given, stays};
+ghost use Rattle.irc_crossing.specs.Hearing.{word_now, words_left, words_now_at, written_with};
+ghost use Rattle.irc_crossing.specs.Letters.{letters_left};
 ghost use Rattle.irc_crossing.specs.Logs.{log_behind, means_as, through};
-ghost use Rattle.irc_crossing.specs.Lines.{word_at};
+ghost use Rattle.irc_crossing.specs.Lines.{change_of, word_at};
 ghost use Rattle.irc_crossing.specs.Loops.Hearings.{IsPutRight};
-ghost use Rattle.irc_crossing.specs.Loops.Modes.{kept, kept_of};
+ghost use Rattle.std.specs.Prelude.{List};
+ghost use Rattle.irc_crossing.specs.declared.log.Entry.{Entry};
+ghost use Rattle.irc_crossing.specs.Loops.LettersLeft.{left_of, with_log};
 ghost use Rattle.irc_crossing.specs.declared.hearing.Given.TheVariants.{AsItCame};
 
 use crate::change::Change;
 use crate::lines::{change_of, is_for_somebody, word_at};
 use crate::log::Log;
-use crate::mode_words::{ModeWords, are_signs};
+use crate::modes::{ChannelModes, LettersLeft, channel_modes, mode_line};
 use arrayvec::ArrayVec;
 use irc_line::limits::MAX_PARAMETERS;
 use irc_line::{Message, Parts, Prefix, Text, parse, write_message};
-use irc_link_words::{is_command, is_for_channel};
-use irc_names::{Nick, is_nick, same};
+use irc_link_words::{is_command, is_marked, unmarked};
+use irc_names::{ChannelName, Nick, is_nick, same};
+use std::alloc::AllocError;
 
 /// The words of a line.
 pub(crate) type LineWords<'a> = ArrayVec<&'a [u8], MAX_PARAMETERS>;
@@ -43,84 +47,105 @@ pub enum Given {
     LeftOut,
     /// That the users of these nicknames are killed: two have had one nickname.
     Kills(Nick, Option<Nick>),
+    /// That a user has come to a channel that was begun at both ends, and is an operator of it.
+    Brings(Nick, ChannelName),
+    /// This line of the server at the other end, with its CR LF, which does what it says: for who
+    /// has done it is gone here.
+    Sets(Text),
 }
 
 impl Log {
     /// Hears a line that comes from the other end, without its CR LF: what the server is given for
-    /// it. `is_held` is whether somebody who is not behind the link has the nickname that the line
-    /// brings, if it is a NICK.
-    pub fn hear(&mut self, line: &[u8], is_held: bool) -> Given
-        ensures given { result ≡ given self.old is_held line.now }
-        ensures behind { self.new ≡ log_after self.old line.now }
+    /// it. `peer` is the name of the server there. `is_held` is whether what the line brings is
+    /// there already: the nickname of a NICK, for somebody who is not behind the link, or the
+    /// channel of a JOIN.
+    ///
+    /// # Errors
+    /// Where memory runs out.
+    pub fn hear(&mut self, line: &[u8], peer: &[u8], is_held: bool) -> Result<Given, AllocError>
+        ensures given { IfOk result (λ became. became ≡ given self.old peer.now is_held line.now) }
+        ensures behind { OnOk result (self.new ≡ log_after self.old line.now) }
     {
         if self.is_empty() {
-            return Given::AsItCame;
+            return Ok(Given::AsItCame);
         }
         match parse(line) {
-            Ok(message) => self.hear_message(&message, is_held),
-            Err(_) => Given::AsItCame,
+            Ok(message) => self.hear_message(&message, peer, is_held),
+            Err(_) => Ok(Given::AsItCame),
         }
     }
 
-    fn hear_message(&mut self, message: &Message<'_>, is_held: bool) -> Given
-        ensures given { result ≡ message_given self.old is_held (parsed message.now) }
-        ensures behind { self.new
-            ≡ log_behind (change_heard self.old (parsed message.now)) self.old }
+    fn hear_message(
+        &mut self,
+        message: &Message<'_>,
+        peer: &[u8],
+        is_held: bool,
+    ) -> Result<Given, AllocError>
+        ensures given { IfOk result (λ became. became
+            ≡ message_given self.old peer.now is_held (parsed message.now)) }
+        ensures behind { OnOk result (self.new ≡ log_after_message self.old (parsed message.now)) }
     {
-        let change = self.change_heard(message);
-        if is_command(b"NICK", message.command) {
-            return self.hear_nick(message, change, is_held);
+        if let Some(modes) = channel_modes(self.alloc(), message)? {
+            return self.hear_modes(message, &modes, peer);
         }
-        let given = self.given_by(message);
-        let _became = self.pass(change);
-        given
+        if is_command(b"NICK", message.command) {
+            return Ok(self.hear_nick(message, is_held));
+        }
+        let given = self.given_by(message, peer, is_held);
+        let _became = self.pass(change_of(message));
+        Ok(given)
     }
 
     /// Hears that a user comes, or takes another nickname.
-    fn hear_nick(&mut self, message: &Message<'_>, change: Option<Change>, is_held: bool) -> Given
+    fn hear_nick(&mut self, message: &Message<'_>, is_held: bool) -> Given
         ensures given { result ≡ option_map_or
             (λ change. nick_given is_held (parsed message.now) (through (Some change) self.old))
-            change AsItCame }
-        ensures behind { self.new ≡ log_behind change self.old }
+            (change_of (parsed message.now)) AsItCame }
+        ensures behind { self.new ≡ log_behind (change_of (parsed message.now)) self.old }
     {
-        let Some(change) = change else {
+        let Some(change) = change_of(message) else {
             return Given::AsItCame;
         };
         let became = self.pass(Some(change));
         nick_given(message, became, is_held)
     }
 
-    /// What a line changes, of what is done of it here.
-    fn change_heard(&self, message: &Message<'_>) -> Option<Change>
-        ensures { result ≡ change_heard self.now (parsed message.now) }
+    /// Hears a MODE of a channel.
+    fn hear_modes(
+        &mut self,
+        message: &Message<'_>,
+        modes: &ChannelModes,
+        peer: &[u8],
+    ) -> Result<Given, AllocError>
+        ensures given { IfOk result (λ became. became
+            ≡ modes_by (parsed message.now) peer.now modes.now.channel
+            (letters_left modes.now.channel modes.now.changes self.old)
+            (optional_now message.now.prefix)) }
+        ensures behind { OnOk result
+            (self.new ≡ (letters_left modes.now.channel modes.now.changes self.old).log) }
     {
-        if !is_command(b"NICK", message.command) && self.is_by_nobody(message) {
-            None
-        } else {
-            change_of(message)
+        let left = self.pass_modes(modes)?;
+        let Some(doer) = message.prefix else {
+            return Ok(given_with(message, None, message.params.as_slice()));
+        };
+        match self.doer_now(message, doer) {
+            Some(doer) => Ok(left.given(message, doer, &modes.channel)),
+            None => Ok(left.set_by(peer, &modes.channel)),
         }
     }
 
-    /// Whether somebody who is gone here kicks.
-    fn is_by_nobody(&self, message: &Message<'_>) -> bool
-        ensures { result ≡ is_by_nobody self.now (parsed message.now) }
-    {
-        is_command(b"KICK", message.command)
-            && match message.prefix {
-                Some(doer) => self.doer_now(message, doer).is_none(),
-                None => false,
-            }
-    }
-
-    /// What a line that is no NICK is given as.
-    fn given_by(&self, message: &Message<'_>) -> Given
-        ensures { result ≡ given_by self.now (parsed message.now)
+    /// What a line that is neither is given as.
+    fn given_by(&self, message: &Message<'_>, peer: &[u8], is_held: bool) -> Given
+        ensures { result ≡ given_by self.now peer.now is_held (parsed message.now)
             (optional_now message.now.prefix) }
     {
         match message.prefix {
             Some(doer) => match self.doer_now(message, doer) {
+                Some(now) if is_held && is_command(b"JOIN", message.command) => {
+                    brought(message, now)
+                }
                 Some(now) => self.given_from(message, Some(now)),
-                None => Given::LeftOut,
+                None => self.set_given(message, peer),
             },
             None => self.given_from(message, None),
         }
@@ -131,54 +156,72 @@ impl Log {
         ensures { result ≡ given_if (parsed message.now) (optional_now prefix.entry)
             (words_left self.now (parsed message.now)) }
     {
-        if is_command(b"KICK", message.command) {
-            self.given_at(message, prefix, 1, Some(word_at(message, 0)))
-        } else if is_for_somebody(message) {
-            self.given_at(message, prefix, 0, None)
-        } else if is_command(b"MODE", message.command) {
-            self.given_modes(message, prefix)
-        } else {
-            given_with(message, prefix, message.params.as_slice())
+        match self.words_left(message) {
+            Some(words) => given_with(message, prefix, words.as_slice()),
+            None => Given::LeftOut,
         }
     }
 
-    /// What a line is given as of which the word at a place is somebody's, as a member of a channel
-    /// if there is one.
-    fn given_at<'a>(
+    /// The words of a line; none where whom it is for is gone, or what it sets is not left.
+    fn words_left<'a>(&'a self, message: &Message<'a>) -> Option<LineWords<'a>>
+        ensures { option_map params_now result ≡ words_left self.now (parsed message.now) }
+    {
+        if is_command(b"KICK", message.command) {
+            self.words_at(message, 1, Some(word_at(message, 0)))
+        } else if is_for_somebody(message) {
+            self.words_at(message, 0, None)
+        } else if self.stays(message) {
+            Some(copy_of(message.params.as_slice()))
+        } else {
+            None
+        }
+    }
+
+    /// The words of a line of which the one at a place is somebody's, as a member of a channel if
+    /// there is one.
+    fn words_at<'a>(
         &'a self,
         message: &Message<'a>,
-        prefix: Option<&[u8]>,
         place: usize,
         channel: Option<&[u8]>,
-    ) -> Given
-        ensures { result ≡ given_if (parsed message.now) (optional_now prefix.entry)
-            (words_now_at place (means_as self.now (optional_now channel.entry))
-            (parsed message.now).params) }
+    ) -> Option<LineWords<'a>>
+        ensures { option_map params_now result
+            ≡ words_now_at place (means_as self.now (optional_now channel.entry))
+            (parsed message.now).params }
     {
         let mut words = copy_of(message.params.as_slice());
         if self.put_right_at(place, channel, words.as_mut_slice()) {
-            given_with(message, prefix, words.as_slice())
+            Some(words)
         } else {
-            Given::LeftOut
+            None
         }
     }
 
-    /// What a MODE is given as.
-    fn given_modes<'a>(&'a self, message: &Message<'a>, prefix: Option<&[u8]>) -> Given
-        ensures { result ≡ given_if (parsed message.now) (optional_now prefix.entry)
-            (mode_words_now self.now (parsed message.now).params) }
+    /// Whether what a line sets is left: a topic.
+    fn stays(&self, message: &Message<'_>) -> bool
+        ensures { result ≡ stays self.now (parsed message.now) }
     {
-        let [channel, letters, words @ ..] = message.params.as_slice() else {
-            return given_with(message, prefix, message.params.as_slice());
-        };
-        if !is_for_channel(channel) {
-            return self.given_at(message, prefix, 0, None);
+        if !is_command(b"TOPIC", message.command) {
+            return true;
         }
-        if are_signs(letters) {
-            return given_with(message, prefix, message.params.as_slice());
+        match change_of(message) {
+            Some(change) => self.would_pass(change).is_some(),
+            None => true,
         }
-        let modes = self.modes_now(channel, letters, words);
-        given_with_modes(message, prefix, &modes)
+    }
+
+    /// What is given for a KICK or a TOPIC of somebody who is gone here: the same by the server at
+    /// the other end. Of any other line nothing is.
+    fn set_given(&self, message: &Message<'_>, peer: &[u8]) -> Given
+        ensures { result ≡ set_given self.now peer.now (parsed message.now) }
+    {
+        if !is_command(b"KICK", message.command) && !is_command(b"TOPIC", message.command) {
+            return Given::LeftOut;
+        }
+        match self.words_left(message) {
+            Some(words) => Given::Sets(written_with(Some(peer), message, words.as_slice())),
+            None => Given::LeftOut,
+        }
     }
 
     /// The word at a place is put right: whether somebody is there whom it names.
@@ -240,7 +283,7 @@ fn nick_given(message: &Message<'_>, became: Option<Change>, is_held: bool) -> G
             given_with(message, Some(nick.as_bytes()), message.params.as_slice())
         }
         Some(Change::Go { nick, other }) => met_given(message, nick, other, is_held),
-        Some(Change::Out { .. }) | None => Given::LeftOut,
+        Some(Change::Out { .. } | Change::Set(_)) | None => Given::LeftOut,
     }
 }
 
@@ -258,49 +301,46 @@ fn met_given(message: &Message<'_>, nick: Nick, other: Option<Nick>, is_held: bo
     }
 }
 
-/// What a MODE of a channel is given as, of which these letters and words are left.
-fn given_with_modes(message: &Message<'_>, prefix: Option<&[u8]>, modes: &ModeWords<'_>) -> Given
-    requires two { 2 ≤ length message.now.params.items }
-    requires few { length (params_now modes.now.words) + 2 ≤ max_parameters }
-    ensures { (left : ModesLeft)
-        → kept_of modes.now ≡ kept (word_at 1 (parsed message.now)) left
-        → result ≡ given_if (parsed message.now) (optional_now prefix.entry)
-        (modes_left (word_at 0 (parsed message.now)) left) }
+/// What is given for a JOIN by which somebody has begun a channel that is here as well.
+fn brought(message: &Message<'_>, doer: &[u8]) -> Given
+    ensures { result ≡ brought (parsed message.now) doer.now }
 {
-    if modes.are_signs {
-        return Given::LeftOut;
+    let word = word_at(message, 0);
+    if !is_marked(word) {
+        return given_with(message, Some(doer), message.params.as_slice());
     }
-    if is_as_it_came(message, prefix, modes) {
-        return Given::AsItCame;
+    match (Nick::read(doer), ChannelName::read(unmarked(word))) {
+        (Some(nick), Some(channel)) => Given::Brings(nick, channel),
+        _ => given_with(message, Some(doer), message.params.as_slice()),
     }
-    let words = mode_words(word_at(message, 0), modes);
-    Given::Changed(written_with(prefix, message, words.as_slice()))
 }
 
-/// Whether nothing of a MODE of a channel is another now.
-fn is_as_it_came(message: &Message<'_>, prefix: Option<&[u8]>, modes: &ModeWords<'_>) -> bool
-    requires two { 2 ≤ length message.now.params.items }
-    ensures { result
-        ≡ (is_same_prefix (optional_now prefix.entry) (optional_now message.now.prefix)
-        && (modes.now.is_whole && pointwise bytes_eq (params_now modes.now.words)
-        (words_now (drop 2 message.now.params.items)))) }
-{
-    is_same_prefix(prefix, message.prefix)
-        && modes.is_whole
-        && are_same(modes.words.as_slice(), &message.params.as_slice()[2..])
-}
+impl LettersLeft {
+    /// What a MODE is given as, from this one.
+    fn given(&self, message: &Message<'_>, doer: &[u8], channel: &ChannelName) -> Given
+        ensures { (log : List Entry) → result ≡ modes_given (parsed message.now) doer.now
+            channel.now (with_log log (left_of self.now)) }
+    {
+        if self.are_all && is_same_prefix(Some(doer), message.prefix) {
+            Given::AsItCame
+        } else if self.changes.is_empty() {
+            Given::LeftOut
+        } else {
+            Given::Changed(mode_line(doer, channel, self.changes.as_slice()))
+        }
+    }
 
-/// The parameters of a MODE of a channel.
-fn mode_words<'a>(channel: &'a [u8], modes: &'a ModeWords<'a>) -> LineWords<'a>
-    requires few { length (params_now modes.now.words) + 2 ≤ max_parameters }
-    ensures { params_now result
-        ≡ channel.now ∷ modes.now.letters.items ∷ params_now modes.now.words }
-{
-    let mut words = LineWords::new();
-    let _ = words.try_push(channel);
-    let _ = words.try_push(modes.letters.as_slice());
-    let _ = words.try_extend_from_slice(modes.words.as_slice());
-    words
+    /// What is given for a MODE of somebody who is gone.
+    fn set_by(&self, peer: &[u8], channel: &ChannelName) -> Given
+        ensures { (log : List Entry) → result ≡ mode_set peer.now channel.now
+            (with_log log (left_of self.now)) }
+    {
+        if self.changes.is_empty() {
+            Given::LeftOut
+        } else {
+            Given::Sets(mode_line(peer, channel, self.changes.as_slice()))
+        }
+    }
 }
 
 /// The line from this one, with these parameters; as it came, where both are as they were.

@@ -8,9 +8,10 @@ mod hearing;
 pub mod laws;
 mod lines;
 mod log;
-mod mode_words;
+mod modes;
+mod setting;
 
 pub use change::{Change, Standing};
 pub use hearing::Given;
-pub use lines::change_told;
 pub use log::{Entry, Log};
+pub use setting::Setting;

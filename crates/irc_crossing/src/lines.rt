@@ -1,26 +1,16 @@
 //! What a line of a link changes.
 ghost use Rattle.std.specs.Prelude.{◌≡◌};
 ghost use Rattle.irc_line.specs.MessageViews.{optional_now, parsed};
-ghost use Rattle.irc_crossing.specs.Hearing.{change_told};
 ghost use Rattle.irc_crossing.specs.Lines.{change_of, come_of, go_of, is_for_somebody, nick_change};
-ghost use Rattle.irc_crossing.specs.Lines.{out_of, rename_of, word_at};
+ghost use Rattle.irc_crossing.specs.Lines.{out_of, rename_of, topic_of, word_at};
 
 use crate::change::Change;
-use irc_line::{Message, parse};
-use irc_link_words::is_command;
+use crate::setting::Setting;
+use irc_line::Message;
+use irc_link_words::{is_command, read_words};
 use irc_names::{ChannelName, Nick};
 
-/// What a line of a link changes, if anything.
-pub fn change_told(line: &[u8]) -> Option<Change>
-    ensures { result ≡ change_told line.now }
-{
-    match parse(line) {
-        Ok(message) => change_of(&message),
-        Err(_) => None,
-    }
-}
-
-/// What a line changes.
+/// What a line changes, but a MODE.
 pub(crate) fn change_of(message: &Message<'_>) -> Option<Change>
     ensures { result ≡ change_of (parsed message.now) }
 {
@@ -35,6 +25,8 @@ pub(crate) fn change_of(message: &Message<'_>) -> Option<Change>
         out_of(message.prefix?, first)
     } else if is_command(b"KICK", message.command) {
         out_of(word_at(message, 1), first)
+    } else if is_command(b"TOPIC", message.command) {
+        topic_of(first, word_at(message, 1))
     } else {
         None
     }
@@ -79,6 +71,16 @@ fn out_of(nick: &[u8], channel: &[u8]) -> Option<Change>
     Some(Change::Out { nick, channel })
 }
 
+fn topic_of(channel: &[u8], text: &[u8]) -> Option<Change>
+    ensures { result ≡ topic_of channel.now text.now }
+{
+    let channel = ChannelName::read(channel)?;
+    match read_words(text) {
+        Ok(text) => Some(Change::Set(Setting::Topic { channel, text })),
+        Err(_) => None,
+    }
+}
+
 /// A word of a line; no bytes where the line has fewer.
 pub(crate) fn word_at<'a>(message: &Message<'a>, place: usize) -> &'a [u8]
     ensures { result.now ≡ word_at place (parsed message.now) }
@@ -89,7 +91,7 @@ pub(crate) fn word_at<'a>(message: &Message<'a>, place: usize) -> &'a [u8]
     }
 }
 
-/// Whether the first parameter is whom the line is for.
+/// Whether the first parameter is whom the line is for, if that is a user.
 pub(crate) fn is_for_somebody(message: &Message<'_>) -> bool
     ensures { result ≡ is_for_somebody (parsed message.now) }
 {
@@ -97,4 +99,5 @@ pub(crate) fn is_for_somebody(message: &Message<'_>) -> bool
         || is_command(b"INVITE", message.command)
         || is_command(b"PRIVMSG", message.command)
         || is_command(b"NOTICE", message.command)
+        || is_command(b"MODE", message.command)
 }

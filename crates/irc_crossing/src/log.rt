@@ -1,11 +1,19 @@
 //! What an end of a link has put out, and the other end had not read when it wrote last.
-ghost use Rattle.std.specs.Prelude.{◌≡◌, [], drop, length, nat_eq, OnOk, OnErr};
+ghost use Rattle.std.specs.Prelude.{◌≡◌, [], ◌∷◌, drop, length, map, nat_eq, OnOk};
 ghost use Rattle.std.specs.Option.{option_copied};
+ghost use Rattle.irc_line.specs.MessageViews.{parsed};
+ghost use Rattle.irc_crossing.specs.Hearing.{logged_of};
+ghost use Rattle.irc_crossing.specs.Letters.{set_mode};
+ghost use Rattle.irc_crossing.specs.Lines.{logged};
 ghost use Rattle.irc_crossing.specs.Logs.{crossed_if, log_behind, means, means_in, member_behind};
 ghost use Rattle.irc_crossing.specs.Loops.Comers.{are_comers};
 ghost use Rattle.irc_crossing.specs.Logs.{is_first_read, nick_behind, put_out, through, unread};
 
 use crate::change::Change;
+use crate::lines::change_of;
+use crate::modes::{ChannelModes, channel_modes, set_mode};
+use irc_line::{Message, parse};
+use irc_link_words::is_command;
 use irc_names::same;
 use std::alloc::{AllocError, Global};
 use std::collections::VecDeque;
@@ -24,6 +32,7 @@ pub struct Entry {
 #[derive(Drop)]
 pub struct Log {
     entries: VecDeque<Entry, Global>,
+    alloc: Global,
 }
 
 /// In a clause it is the list of its entries.
@@ -43,7 +52,13 @@ impl Log {
     {
         Log {
             entries: VecDeque::new(alloc),
+            alloc,
         }
+    }
+
+    /// Where it has its memory.
+    pub(crate) fn alloc(&self) -> Global {
+        self.alloc
     }
 
     /// How many changes are in it.
@@ -67,29 +82,48 @@ impl Log {
         self.entries.clear();
     }
 
-    /// A piece is put out, which changes this, if anything.
+    /// A line is put out in a piece, without its CR LF.
     ///
     /// # Errors
-    /// Where memory runs out; nothing has changed then.
-    pub fn put_out(&mut self, piece: u64, change: Option<Change>) -> Result<(), AllocError>
-        ensures ok { OnOk result (self.new ≡ put_out piece change self.old) }
-        ensures refused { OnErr result (self.new ≡ self.old) }
+    /// Where memory runs out.
+    pub fn put_out(&mut self, piece: u64, line: &[u8]) -> Result<(), AllocError>
+        ensures { OnOk result (self.new ≡ put_out piece (logged_of line.now) self.old) }
     {
-        match change {
-            Some(change) => self.push(piece, change),
-            None => Ok(()),
+        match parse(line) {
+            Ok(message) => self.put_message(piece, &message),
+            Err(_) => Ok(()),
         }
     }
 
-    fn push(&mut self, piece: u64, change: Change) -> Result<(), AllocError>
-        ensures ok { OnOk result (self.new ≡ put_out piece (Some change) self.old) }
-        ensures refused { OnErr result (self.new ≡ self.old) }
+    fn put_message(&mut self, piece: u64, message: &Message<'_>) -> Result<(), AllocError>
+        ensures { OnOk result (self.new ≡ put_out piece (logged (parsed message.now)) self.old) }
     {
-        let entry = Entry {
-            piece,
-            change: Some(change),
-        };
-        match self.entries.push_back(entry) {
+        if is_command(b"JOIN", message.command) || is_command(b"NJOIN", message.command) {
+            return self.push(piece, None);
+        }
+        match channel_modes(self.alloc, message)? {
+            Some(modes) => self.put_modes(piece, &modes),
+            None => match change_of(message) {
+                Some(change) => self.push(piece, Some(change)),
+                None => Ok(()),
+            },
+        }
+    }
+
+    fn put_modes(&mut self, piece: u64, modes: &ChannelModes) -> Result<(), AllocError>
+        ensures { OnOk result (self.new ≡ put_out piece
+            (map (set_mode modes.now.channel) modes.now.changes) self.old) }
+    {
+        for change in modes.changes.as_slice() {
+            self.push(piece, Some(set_mode(&modes.channel, change)))?;
+        }
+        Ok(())
+    }
+
+    fn push(&mut self, piece: u64, change: Option<Change>) -> Result<(), AllocError>
+        ensures { OnOk result (self.new ≡ put_out piece (change ∷ []) self.old) }
+    {
+        match self.entries.push_back(Entry { piece, change }) {
             Ok(()) => Ok(()),
             Err(_) => Err(AllocError),
         }
@@ -130,6 +164,17 @@ impl Log {
             return None;
         };
         pass_all(Some(theirs), self.entries.make_contiguous())
+    }
+
+    /// What would become here of this, if the other end had changed it.
+    pub(crate) fn would_pass(&self, theirs: Change) -> Option<Change>
+        ensures { result ≡ through (Some theirs) self.now }
+    {
+        let mut left = Some(theirs);
+        for entry in self.entries.iter() {
+            left = crossed_if(left.as_ref(), entry.change.as_ref());
+        }
+        left
     }
 
     /// The nickname now of whom the other end means by this one; none where it is gone.

@@ -19,7 +19,7 @@ use Rattle.irc_pieces.specs.Counting.{mark_words, may_have, or_parameters}
 use Rattle.irc_pieces.specs.Laws.{IsCount}
 use Rattle.irc_pieces.specs.declared.count.Count.{Count}
 use Rattle.irc_pieces.specs.declared.count.Mark.{Mark}
-use Rattle.irc_pieces.specs.declared.count.Mark.TheVariants.{Birth, Echo}
+use Rattle.irc_pieces.specs.declared.count.Mark.TheVariants.{Set}
 
 -- what is known in the crates below
 pub record IsKnown : Type 0 where
@@ -71,8 +71,7 @@ number_plain : (number : ℕ) → AreDigits number → IsPlainWord (decimal numb
 number_plain number is = digits_plain (decimal number) is.digits is.some
 
 mark_plain : (mark : Mark) → IsPlainWord (mark_word mark)
-mark_plain Birth = word_of _ _ refl refl refl
-mark_plain Echo = word_of _ _ refl refl refl
+mark_plain Set = word_of _ _ refl refl refl
 
 -- ---- the line
 
@@ -119,17 +118,10 @@ line_fits count read lines = fits count.mark
       read.few,
       lines.few,
     )
-    fits (Some Birth) = omega (
+    fits (Some Set) = omega (
       arith,
       together (decimal count.read) (decimal count.lines)
-          (32 ∷ codes "birth" ++ []),
-      read.few,
-      lines.few,
-    )
-    fits (Some Echo) = omega (
-      arith,
-      together (decimal count.read) (decimal count.lines)
-          (32 ∷ codes "echo" ++ []),
+          (32 ∷ codes "set" ++ []),
       read.few,
       lines.few,
     )
@@ -158,8 +150,7 @@ count_found read lines mark many few may =
     ∙ ap (λ b. if b then Some (record { read = read; lines = lines; mark = mark }) else None) may
 
 mark_found : (mark : Mark) → mark_of (mark_word mark) ≡ Some mark
-mark_found Birth = refl
-mark_found Echo = refl
+mark_found Set = refl
 
 words_found : (read lines : ℕ) (mark : Option Mark) → written_number (decimal read) ≡ Some read
     → written_number (decimal lines) ≡ Some lines

@@ -1,6 +1,6 @@
 -- The line in front of a piece (our own choice; RFC 2813 has none):
 --   COUNT 7 2          seven pieces of the other end were read; two lines are one piece
---   COUNT 7 1 echo     a piece of one line, which says something more
+--   COUNT 7 1 set      a piece of one line, which sets what it says
 --   COUNT 7 0          nothing comes but the count
 --   COUNT 7 17         closes the link: no piece has more than 16 lines
 --   COUNT 07 1         closes the link: a number has one way to be written
@@ -15,13 +15,12 @@ use Rattle.irc_line.specs.Messages.{Parsed, Written, nobody}
 use Rattle.irc_line.specs.Reading.{read_of}
 use Rattle.irc_pieces.specs.declared.count.Count.{Count}
 use Rattle.irc_pieces.specs.declared.count.Mark.{Mark}
-use Rattle.irc_pieces.specs.declared.count.Mark.TheVariants.{Birth, Echo}
+use Rattle.irc_pieces.specs.declared.count.Mark.TheVariants.{Set}
 
 -- ---- written
 
 abbrev pub mark_word : Mark → List ℕ
-mark_word Birth = codes "birth"
-mark_word Echo = codes "echo"
+mark_word Set = codes "set"
 
 abbrev pub mark_words : Option Mark → List (List ℕ)
 mark_words None = []
@@ -38,9 +37,7 @@ count_parts count =
 -- ---- read
 
 abbrev pub mark_of : List ℕ → Option Mark
-mark_of word =
-    if bytes_eq word (codes "birth") then Some Birth
-    else (if bytes_eq word (codes "echo") then Some Echo else None)
+mark_of word = if bytes_eq word (codes "set") then Some Set else None
 
 -- a piece has no more than 16 lines, and one that says something more has some
 abbrev pub may_have : Count → Bool

@@ -16,23 +16,20 @@ pub const MOST_LINES: u64 = 16;
 
 const COMMAND: &[u8] = b"COUNT";
 
-const BIRTH: &[u8] = b"birth";
-
-const ECHO: &[u8] = b"echo";
+const SET: &[u8] = b"set";
 
 /// What a piece says beside its lines.
 #[derive(Clone, Copy, Debug, Drop, PartialEq, Eq)]
 pub enum Mark {
-    /// By its line a channel began at the end that wrote it.
-    Birth,
-    /// Its line answers two users with one nickname, one of whom came by this link.
-    Echo,
+    /// Its lines are of a server, and set what they say, where a MODE and a TOPIC of a server
+    /// raise without it: they are of what somebody did who is gone.
+    Set,
 }
 
 /// The line in front of a piece:
 ///
 ///     COUNT 7 2          seven pieces of the other end were read; two lines are one piece
-///     COUNT 7 1 echo     a piece of one line, which says something more
+///     COUNT 7 1 set      a piece of one line, which sets what it says
 ///     COUNT 7 0          nothing comes but the count
 #[derive(Clone, Copy, Debug, Drop, PartialEq, Eq)]
 pub struct Count {
@@ -50,8 +47,7 @@ impl Mark {
         ensures { result.now ≡ mark_word self }
     {
         match self {
-            Mark::Birth => BIRTH,
-            Mark::Echo => ECHO,
+            Mark::Set => SET,
         }
     }
 
@@ -59,10 +55,8 @@ impl Mark {
     fn read(word: &[u8]) -> Option<Self>
         ensures { result ≡ mark_of word.now }
     {
-        if word == BIRTH {
-            Some(Mark::Birth)
-        } else if word == ECHO {
-            Some(Mark::Echo)
+        if word == SET {
+            Some(Mark::Set)
         } else {
             None
         }

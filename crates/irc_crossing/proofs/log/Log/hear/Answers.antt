@@ -1,8 +1,8 @@
-use Rattle.std.proofs.Common.{◌∙◌, sym}
-use Rattle.irc_crossing.proofs.Nothing.{given_of_none}
+use Rattle.std.proofs.Common.{◌∙◌, Bool, ap, sym}
+use Rattle.irc_crossing.specs.Hearing.{given_past}
 use Rattle.irc_crossing.proofs.log.Log.hear.Goals as goal
 
 pub returns-then-is_empty-clause-given : goal.returns-then-is_empty-clause-given
 returns-then-is_empty-clause-given c =
-    given_of_none c.args.self.now c.args.is_held c.args.line.now
-    (sym c.is_empty.ensures ∙ c.if-is_empty.true)
+    ap (λ (b : Bool). given_past b c.args.self.now c.args.peer.now c.args.is_held c.args.line.now)
+    (sym (sym c.is_empty.ensures ∙ c.if-is_empty.true))
