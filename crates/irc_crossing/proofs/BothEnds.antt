@@ -41,7 +41,12 @@ second_same : (one other third : List ℕ) → same one other ≡ true
 second_same one other third is =
     ap (λ folds. pointwise nat_eq (key third) folds) ((same-tells one other).0 is)
 
--- ---- who is out of a channel keeps the nickname
+-- ---- who is out of a channel keeps the nickname, and so do all where something is set
+
+pub set_keeps : (nick : List ℕ) (setting : Option Setting)
+    → nick_after (option_map Set setting) nick ≡ Some nick
+set_keeps nick None = refl
+set_keeps nick (Some setting) = refl
 
 out_keeps : (channel nick : List ℕ) (who : Option (List ℕ))
     → nick_after (option_map (λ now. Out now channel) who) nick ≡ Some nick
@@ -66,6 +71,8 @@ behind_out (Go one None) out channel nick = refl
 behind_out (Go one (Some other)) out channel nick = refl
 behind_out (Out other from) out channel nick =
     sym (out_keeps from nick (member_now (Out out channel) from other))
+behind_out (Set setting) out channel nick =
+    sym (set_keeps nick (setting_behind (Out out channel) setting))
 
 out_agrees : (ours : Change) (out channel nick : List ℕ)
     → nick_behind_both (Out out channel) ours nick ≡ nick_behind_both ours (Out out channel) nick
@@ -75,11 +82,6 @@ out_agrees ours out channel nick =
     ∙ behind_out ours out channel nick
 
 -- ---- what is set leaves nicknames as they are
-
-pub set_keeps : (nick : List ℕ) (setting : Option Setting)
-    → nick_after (option_map Set setting) nick ≡ Some nick
-set_keeps nick None = refl
-set_keeps nick (Some setting) = refl
 
 behind_set : (ours : Change) (setting : Setting) (nick : List ℕ)
     → nick_now ours nick ≡ nick_after (crossed ours (Set setting)) nick

@@ -1,11 +1,16 @@
 -- Lines in known forms.
 use Rattle.std.proofs.Common.{refl}
+use Rattle.std.specs.Fmt.{digits}
 use Rattle.irc_line.specs.Bytes.{cut}
 use Rattle.irc_line.specs.Messages.{line_text}
 use Rattle.irc_line.specs.Reading.{read_of}
 use Rattle.irc_names.specs.Fold.{fold, fold_table}
-use Rattle.irc_names.specs.Names.{is_channel, is_nick}
-use Rattle.irc_crossing.specs.Examples.{GoneIsLeftOut, InviteIsLeftOut, KeyStays, KickIsFollowed}
+use Rattle.irc_modes.specs.Modes.{is_limit}
+use Rattle.irc_names.specs.Names.{is_ban_mask, is_channel, is_key, is_nick}
+use Rattle.irc_crossing.specs.Examples.{GoneIsLeftOut, InviteIsLeftOut, KeyStays, KeyYields}
+use Rattle.irc_crossing.specs.Examples.{KickIsFollowed, KickIsSet, ModeIsSet, OperatorIsBrought}
+use Rattle.irc_crossing.specs.Examples.{OperatorStays, OthersStay, PrivateYields, TopicIsSet}
+use Rattle.irc_crossing.specs.Examples.{TopicStays, TopicYields}
 use Rattle.irc_crossing.specs.Examples.{KickIsLeftOut, KillIsFollowed, KilledIsFollowed}
 use Rattle.irc_crossing.specs.Examples.{LetterIsLeftOut, MetGoes, MetIsGiven, MetIsKilled}
 use Rattle.irc_crossing.specs.Examples.{ModeIsLeftOut, NextIsSpared, PartIsLeftOut, TextIsLeftOut}
@@ -55,7 +60,7 @@ unfolding read_of is_nick is_channel fold fold_table
 met_is_killed = refl
 
 pub letter_is_left_out : LetterIsLeftOut
-unfolding read_of is_nick is_channel fold fold_table line_text cut
+unfolding read_of is_nick is_channel is_limit fold fold_table line_text cut digits
 letter_is_left_out = refl
 
 pub mode_is_left_out : ModeIsLeftOut
@@ -63,7 +68,7 @@ unfolding read_of is_nick is_channel fold fold_table
 mode_is_left_out = refl
 
 pub key_stays : KeyStays
-unfolding read_of is_nick is_channel fold fold_table
+unfolding read_of is_nick is_channel is_key fold fold_table line_text cut
 key_stays = refl
 
 pub killed_is_followed : KilledIsFollowed
@@ -76,3 +81,43 @@ killed_is_followed = record {
   log_rob = refl;
   read = refl;
 }
+
+pub topic_yields : TopicYields
+unfolding read_of is_nick is_channel fold fold_table line_text cut
+topic_yields = refl
+
+pub topic_stays : TopicStays
+unfolding read_of is_nick is_channel fold fold_table line_text cut
+topic_stays = refl
+
+pub key_yields : KeyYields
+unfolding read_of is_nick is_channel is_key fold fold_table line_text cut
+key_yields = refl
+
+pub private_yields : PrivateYields
+unfolding read_of is_nick is_channel fold fold_table line_text cut
+private_yields = refl
+
+pub operator_stays : OperatorStays
+unfolding read_of is_nick is_channel fold fold_table line_text cut
+operator_stays = refl
+
+pub others_stay : OthersStay
+unfolding read_of is_nick is_channel is_ban_mask fold fold_table line_text cut
+others_stay = refl
+
+pub mode_is_set : ModeIsSet
+unfolding read_of is_nick is_channel fold fold_table line_text cut
+mode_is_set = refl
+
+pub topic_is_set : TopicIsSet
+unfolding read_of is_nick is_channel fold fold_table line_text cut
+topic_is_set = refl
+
+pub kick_is_set : KickIsSet
+unfolding read_of is_nick is_channel fold fold_table line_text cut
+kick_is_set = refl
+
+pub operator_is_brought : OperatorIsBrought
+unfolding read_of is_nick is_channel fold fold_table line_text cut
+operator_is_brought = refl

@@ -3,7 +3,6 @@ mod BothMembers
 mod Counting
 mod Examples
 mod Following
-mod LettersPassed
 mod Nothing
 mod Passing
 mod Placing

@@ -5,7 +5,8 @@ use Rattle.irc_crossing.specs.Hearing.{given, log_after, logged_of}
 use Rattle.irc_crossing.specs.Logs.{put_out, unread}
 use Rattle.irc_crossing.specs.declared.change.Change.TheVariants.{Go, Rename}
 use Rattle.irc_crossing.specs.declared.hearing.Given.{Given}
-use Rattle.irc_crossing.specs.declared.hearing.Given.TheVariants.{AsItCame, Changed, LeftOut, Kills}
+use Rattle.irc_crossing.specs.declared.hearing.Given.TheVariants.{AsItCame, Brings, Changed}
+use Rattle.irc_crossing.specs.declared.hearing.Given.TheVariants.{LeftOut, Kills, Sets}
 use Rattle.irc_crossing.specs.declared.log.Entry.{Entry}
 
 -- the log of an end that has put out these lines, each in a piece of its own from a number on
@@ -74,6 +75,56 @@ ModeIsLeftOut = given_after (codes ":al PART #c :bye") (codes ":bo MODE #c +o al
 -- a key that is spelled like a nickname
 abbrev pub KeyStays : Type 0
 KeyStays = given_after (codes ":al NICK ally") (codes ":bo MODE #c +k al") ≡ AsItCame
+
+-- ---- what both ends set at once
+
+-- the greater topic stays, at both ends
+abbrev pub TopicYields : Type 0
+TopicYields = given_after (codes ":al TOPIC #c :two") (codes ":bo TOPIC #c :one") ≡ LeftOut
+
+abbrev pub TopicStays : Type 0
+TopicStays = given_after (codes ":al TOPIC #c :one") (codes ":bo TOPIC #c :two") ≡ AsItCame
+
+-- the lesser key is left out of a MODE, and s is greater than p
+abbrev pub KeyYields : Type 0
+KeyYields = given_after (codes ":al MODE #c +k y") (codes ":bo MODE #c +ik x")
+    ≡ changed_to (codes ":bo MODE #c +i")
+
+abbrev pub PrivateYields : Type 0
+PrivateYields = given_after (codes ":al MODE #c +s") (codes ":bo MODE #c +p") ≡ LeftOut
+
+-- what is set stays over what is taken away; of another member, and of another ban, both do
+abbrev pub OperatorStays : Type 0
+OperatorStays = given_after (codes ":al MODE #c -o bea") (codes ":bo MODE #c +o bea") ≡ AsItCame
+
+abbrev pub OthersStay : Type 0
+OthersStay = given_after (codes ":al MODE #c +b a!*@*") (codes ":bo MODE #c -b b!*@*") ≡ AsItCame
+
+-- ---- what somebody does who is gone: as by the server at the other end
+
+abbrev pub set_to : List ℕ → Given
+set_to line = Sets (record { items = line ++ crlf })
+
+abbrev pub ModeIsSet : Type 0
+ModeIsSet = given_after (codes ":a.net KILL bo :bad") (codes ":bo MODE #c +i")
+    ≡ set_to (codes ":b.net MODE #c +i")
+
+abbrev pub TopicIsSet : Type 0
+TopicIsSet = given_after (codes ":a.net KILL bo :bad") (codes ":bo TOPIC #c :x")
+    ≡ set_to (codes ":b.net TOPIC #c :x")
+
+abbrev pub KickIsSet : Type 0
+KickIsSet = given_after (codes ":a.net KILL bo :bad") (codes ":bo KICK #c al :out")
+    ≡ set_to (codes ":b.net KICK #c al :out")
+
+-- ---- a channel that is begun at both ends
+
+abbrev pub begun : List ℕ → List ℕ
+begun line = line ++ 7 ∷ codes "o"
+
+abbrev pub OperatorIsBrought : Type 0
+OperatorIsBrought = given_after (begun (codes ":al JOIN #c")) (begun (codes ":bo JOIN #C"))
+    ≡ Brings (codes "bo") (codes "#C")
 
 -- ---- of whom a line is, and for whom
 

@@ -10,7 +10,7 @@
 --   a.net has put out   :al PART #c :bye
 --   b.net writes        :bo MODE #c +ol al 5        becomes :bo MODE #c +l :5
 use Rattle.std.specs.Prelude.{ℕ, zero, suc, ◌-◌, Bool, true, false, ◌&&◌, ◌||◌, Option, Some, None}
-use Rattle.std.specs.Prelude.{Result, Ok, Err, List, [], ◌∷◌, length, take, is_some, nat_eq}
+use Rattle.std.specs.Prelude.{Result, Ok, Err, List, [], ◌∷◌, length, take, is_some}
 use Rattle.std.specs.Prelude.{if◌then◌else◌}
 use Rattle.std.specs.List.{slice_get}
 use Rattle.std.specs.Option.{is_none, option_map, option_map_or}
@@ -217,12 +217,9 @@ read_given log peer is_held (Err fault) = AsItCame
 
 -- What the server is given for a line: `peer` is the server at the other end, and `is_held` is
 -- whether what the line brings is there already. Behind an empty log it is given as it came.
-abbrev pub given_past : Bool → List Entry → (peer : List ℕ) → Bool → List ℕ → Given
-given_past true log peer is_held line = AsItCame
-given_past false log peer is_held line = read_given log peer is_held (read_of line)
-
 abbrev pub given : List Entry → (peer : List ℕ) → Bool → List ℕ → Given
-given log peer is_held line = given_past (nat_eq (length log) 0) log peer is_held line
+given [] peer is_held line = AsItCame
+given (entry ∷ log) peer is_held line = read_given (entry ∷ log) peer is_held (read_of line)
 
 -- ---- the log behind it
 

@@ -103,4 +103,4 @@ abbrev pub logged : Parsed → List (Option Change)
 logged message =
     if is_join_line message || is_njoin_line message then None ∷ []
     else option_map_or (λ (modes : ChannelModes). map (set_mode modes.channel) modes.changes)
-    (map (λ change. Some change) (option_to_list (change_of message))) (channel_modes message)
+    (channel_modes message) (map (λ change. Some change) (option_to_list (change_of message)))

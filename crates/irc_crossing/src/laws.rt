@@ -2,6 +2,9 @@
 //! function that does nothing, and its contract is the law: the check proves it, and a crate above
 //! may cite it.
 ghost use Rattle.irc_crossing.specs.Examples.{GoneIsLeftOut, InviteIsLeftOut, KeyStays};
+ghost use Rattle.irc_crossing.specs.Examples.{KeyYields, KickIsSet, ModeIsSet, OperatorIsBrought};
+ghost use Rattle.irc_crossing.specs.Examples.{OperatorStays, OthersStay, PrivateYields};
+ghost use Rattle.irc_crossing.specs.Examples.{TopicIsSet, TopicStays, TopicYields};
 ghost use Rattle.irc_crossing.specs.Examples.{KickIsFollowed, KickIsLeftOut, KillIsFollowed};
 ghost use Rattle.irc_crossing.specs.Examples.{KilledIsFollowed, LetterIsLeftOut, MetGoes};
 ghost use Rattle.irc_crossing.specs.Examples.{MetIsGiven, MetIsKilled, ModeIsLeftOut};
@@ -26,7 +29,7 @@ pub fn names_are_followed()
     ensures takers { TakersAreOthers }
 {}
 
-/// A line from somebody who is gone is left out, where it is no NICK.
+/// A line from somebody who is gone is left out, where it is no NICK, and no KICK, MODE or TOPIC.
 pub fn who_is_gone_is_left_out()
     ensures { WhoIsGoneIsLeftOut }
 {}
@@ -67,6 +70,24 @@ pub fn mode_lines()
     ensures letter { LetterIsLeftOut }
     ensures line { ModeIsLeftOut }
     ensures key { KeyStays }
+{}
+
+/// What both ends set at once: the greater stays.
+pub fn set_lines()
+    ensures topic_yields { TopicYields }
+    ensures topic_stays { TopicStays }
+    ensures key { KeyYields }
+    ensures private { PrivateYields }
+    ensures operator { OperatorStays }
+    ensures others { OthersStay }
+    ensures brought { OperatorIsBrought }
+{}
+
+/// What somebody does who is gone.
+pub fn gone_lines()
+    ensures mode { ModeIsSet }
+    ensures topic { TopicIsSet }
+    ensures kick { KickIsSet }
 {}
 
 /// Two lines behind one another, and the log.

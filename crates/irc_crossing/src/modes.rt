@@ -1,5 +1,5 @@
 //! The letters of a MODE of a channel.
-ghost use Rattle.std.specs.Prelude.{◌≡◌, ◌≤◌, ◌++◌, IfOk, OnOk};
+ghost use Rattle.std.specs.Prelude.{◌≡◌, ◌≤◌, [], ◌∷◌, ◌++◌, IfOk, OnOk, Some};
 ghost use Rattle.arrayvec.specs.ArrayVec.{array_vec_len};
 ghost use Rattle.irc_line.specs.Bytes.{cut};
 ghost use Rattle.irc_line.specs.Limits.{max_line};
@@ -124,7 +124,7 @@ impl LettersLeft {
     }
 
     fn put(&mut self, change: ModeChange) -> Result<(), AllocError>
-        ensures { OnOk result (self.new.changes.items ≡ self.old.changes.items ++ change ∷ []) }
+        ensures put { OnOk result (self.new.changes.items ≡ self.old.changes.items ++ change ∷ []) }
         ensures stays { self.new.are_all ≡ self.old.are_all }
     {
         match self.changes.push(change) {

@@ -17,6 +17,7 @@ use Rattle.irc_server.specs.ReadEvents.{read_event_of}
 use Rattle.irc_engine.specs.Machines.{AreConnectedBy, AreStillConnected, IsConnectedBy}
 use Rattle.irc_engine.specs.Machines.{IsStillConnected}
 use Rattle.irc_engine.specs.Lemmas.Layers.{connected_shut}
+use Rattle.irc_layer.specs.declared.end.Cause.{Cause}
 use Rattle.irc_layer.specs.declared.end.End.{End}
 use Rattle.irc_layer.specs.Ends.{Ends}
 use Rattle.irc_layer.specs.Putting.{all_put, count_at}
@@ -186,35 +187,35 @@ module _ (link : ℕ) (line : ArrayVec ℕ) where
 
 -- ---- what the server puts out is put out by the layer
 
-put_by : (event : Event) (arrival : Option ℕ) (ends : Ends) (was new : View) (x : List Sent)
+put_by : (event : Event) (cause : Cause) (ends : Ends) (was new : View) (x : List Sent)
     → AreConnectedBy was (read_event_of event) x new
-    → AreConnectedBy was (read_event_of event) (all_put arrival x ends) new
-put_by event arrival ends was new x by = record {
+    → AreConnectedBy was (read_event_of event) (all_put cause x ends) new
+put_by event cause ends was new x by = record {
   clients = λ q. by.clients q
       ∙ ap (λ t. is_there_after (has_client was q) (client_comes q (read_event_of event))
       (client_goes q (read_event_of event)) t)
-      (sym (all_kept (ends_client q) (λ l y. refl) arrival x ends));
+      (sym (all_kept (ends_client q) (λ l y. refl) cause x ends));
   links = λ q. by.links q
       ∙ ap (λ t. is_there_after (has_link was q) (link_comes q (read_event_of event))
       (link_goes q (read_event_of event)) t)
-      (sym (all_kept (ends_link q) (λ l y. refl) arrival x ends));
+      (sym (all_kept (ends_link q) (λ l y. refl) cause x ends));
   clients_were_there = λ q ended. by.clients_were_there q
-      (sym (all_kept (ends_client q) (λ l y. refl) arrival x ends) ∙ ended);
+      (sym (all_kept (ends_client q) (λ l y. refl) cause x ends) ∙ ended);
   links_were_there = λ q ended. by.links_were_there q
-      (sym (all_kept (ends_link q) (λ l y. refl) arrival x ends) ∙ ended);
+      (sym (all_kept (ends_link q) (λ l y. refl) cause x ends) ∙ ended);
 }
 
-pub connected_put : (event : Event) (arrival : Option ℕ) (ends : Ends) (server after : Option View)
+pub connected_put : (event : Event) (cause : Cause) (ends : Ends) (server after : Option View)
     (outs before end : List Sent) → IsConnectedBy server event [] after outs
-    → end ≡ before ++ all_put arrival outs ends → IsConnectedBy server event before after end
-connected_put event arrival ends server after outs before end by is = record {
-  outs = all_put arrival outs ends;
+    → end ≡ before ++ all_put cause outs ends → IsConnectedBy server event before after end
+connected_put event cause ends server after outs before end by is = record {
+  outs = all_put cause outs ends;
   after_is = is;
   connected = λ behind is_behind.
       let was = by.connected behind is_behind in (
         was.0,
         was.1,
-        put_by event arrival ends was.0 behind outs
+        put_by event cause ends was.0 behind outs
             (subst (λ x. AreConnectedBy was.0 (read_event_of event) x behind)
             (sym by.after_is) was.2),
       );

@@ -4,7 +4,8 @@ use Rattle.std.specs.Fmt.{digits}
 use Rattle.irc_line.specs.Bytes.{cut}
 use Rattle.irc_line.specs.Messages.{line_text}
 use Rattle.irc_line.specs.Reading.{read_of}
-use Rattle.irc_layer.specs.Examples.{CountIsInFront, KillDoesNotGoBack, LostServersAreOne}
+use Rattle.irc_layer.specs.Examples.{CountIsInFront, KickIsUnspoken, KillDoesNotGoBack}
+use Rattle.irc_layer.specs.Examples.{LostServersAreOne, SetIsMarked}
 
 pub count_is_in_front : CountIsInFront
 unfolding read_of line_text cut digits
@@ -17,3 +18,11 @@ lost_servers_are_one = refl
 pub kill_does_not_go_back : KillDoesNotGoBack
 unfolding read_of
 kill_does_not_go_back = refl
+
+pub set_is_marked : SetIsMarked
+unfolding read_of line_text cut digits
+set_is_marked = refl
+
+pub kick_is_unspoken : KickIsUnspoken
+unfolding read_of
+kick_is_unspoken = refl

@@ -11,6 +11,7 @@ use Rattle.std.proofs.Math.Seq.{drop-cons}
 use Rattle.std.proofs.lemmas.Option.{get_or_from_slice_get, none-some, slice_get_within}
 use Rattle.std.proofs.lemmas.Option.{slice_get-get_or}
 use Rattle.irc_batch.specs.Batches.{Sent, end_of, end_of_link, line_on, line_to}
+use Rattle.irc_layer.specs.declared.end.Cause.{Cause}
 use Rattle.irc_layer.specs.declared.end.End.{End}
 use Rattle.irc_layer.specs.Ends.{end_at, Ends}
 use Rattle.std.proofs.lemmas.List.{nil_from_length}
@@ -28,28 +29,28 @@ first_of_the_rest outs place out there =
     ∙ ap (λ first. first ∷ drop (suc place) outs) (get_or_from_slice_get outs place out out there)
     ∙ ap (λ n. out ∷ drop n outs) next
 
-module _ (arrival : Option ℕ) (outs : List Sent) (place : ℕ) (sent : Sent)
+module _ (cause : Cause) (outs : List Sent) (place : ℕ) (sent : Sent)
     (old new : Ends) (there : slice_get outs place ≡ Some sent)
-    (is : new ≡ ends_behind arrival sent (drop (place + 1) outs) old) where
+    (is : new ≡ ends_behind cause sent (drop (place + 1) outs) old) where
   -- the ends behind it, and behind what follows it
-  pub ends_moved_on : ends_behind_all arrival (drop (place + 1) outs) new
-      ≡ ends_behind_all arrival (drop place outs) old
+  pub ends_moved_on : ends_behind_all cause (drop (place + 1) outs) new
+      ≡ ends_behind_all cause (drop place outs) old
   ends_moved_on =
-      ap (ends_behind_all arrival (drop (place + 1) outs)) is
-      ∙ ap (λ rest. ends_behind_all arrival rest old)
+      ap (ends_behind_all cause (drop (place + 1) outs)) is
+      ∙ ap (λ rest. ends_behind_all cause rest old)
       (sym (first_of_the_rest outs place sent there))
 
   -- it is put out, and what follows it is still to be
   pub outs_moved_on : (own before : List Sent)
-      → own ≡ before ++ one_put arrival sent (drop (place + 1) outs) old
-      → own ++ all_put arrival (drop (place + 1) outs) new
-      ≡ before ++ all_put arrival (drop place outs) old
+      → own ≡ before ++ one_put cause sent (drop (place + 1) outs) old
+      → own ++ all_put cause (drop (place + 1) outs) new
+      ≡ before ++ all_put cause (drop place outs) old
   outs_moved_on own before put =
-      (λ i. put i ++ all_put arrival (drop (place + 1) outs) (is i))
-      ∙ append_assoc before (one_put arrival sent (drop (place + 1) outs) old)
-      (all_put arrival (drop (place + 1) outs)
-      (ends_behind arrival sent (drop (place + 1) outs) old))
-      ∙ ap (λ rest. before ++ all_put arrival rest old)
+      (λ i. put i ++ all_put cause (drop (place + 1) outs) (is i))
+      ∙ append_assoc before (one_put cause sent (drop (place + 1) outs) old)
+      (all_put cause (drop (place + 1) outs)
+      (ends_behind cause sent (drop (place + 1) outs) old))
+      ∙ ap (λ rest. before ++ all_put cause rest old)
       (sym (first_of_the_rest outs place sent there))
 
 -- something is there
@@ -70,11 +71,11 @@ next_first link outs place sent there =
 
 -- ---- where no link is there
 
-module _ (arrival : Option ℕ) where
+module _ (cause : Cause) where
   one_nowhere : (sent : Sent) (outs : List Sent) (ends : Ends) → ((q : ℕ) → ends q ≡ None)
-      → one_put arrival sent outs ends ≡ sent ∷ []
+      → one_put cause sent outs ends ≡ sent ∷ []
   one_nowhere (line_on link line) outs ends none =
-      ap (line_put arrival link (piece_lines link line outs) line) (none link)
+      ap (line_put cause link (piece_lines link line outs) line) (none link)
   one_nowhere (line_to conn line) outs ends none = refl
   one_nowhere (end_of conn) outs ends none = refl
   one_nowhere (end_of_link link reason) outs ends none = refl
@@ -89,9 +90,9 @@ module _ (arrival : Option ℕ) where
   none_goes end false none = refl
 
   ends_nowhere : (sent : Sent) (outs : List Sent) (ends : Ends) → ((q : ℕ) → ends q ≡ None)
-      → ends_behind arrival sent outs ends ≡ ends
+      → ends_behind cause sent outs ends ≡ ends
   ends_nowhere (line_on link line) outs ends none = λ i q.
-      none_changes (behind_line arrival link (piece_lines link line outs) line) (ends q)
+      none_changes (behind_line cause link (piece_lines link line outs) line) (ends q)
       (nat_eq link q) (none q) i
   ends_nowhere (line_to conn line) outs ends none = refl
   ends_nowhere (end_of conn) outs ends none = refl
@@ -100,29 +101,29 @@ module _ (arrival : Option ℕ) where
 
   -- all goes as it is
   pub outs_as_they_are : (outs : List Sent) (ends : Ends) → ((q : ℕ) → ends q ≡ None)
-      → all_put arrival outs ends ≡ outs
+      → all_put cause outs ends ≡ outs
   outs_as_they_are [] ends none = refl
   outs_as_they_are (sent ∷ outs) ends none =
       (λ i. one_nowhere sent outs ends none i
-      ++ all_put arrival outs (ends_nowhere sent outs ends none i))
+      ++ all_put cause outs (ends_nowhere sent outs ends none i))
       ∙ ap (λ more. sent ∷ more) (outs_as_they_are outs ends none)
 
   pub ends_as_they_are : (outs : List Sent) (ends : Ends) → ((q : ℕ) → ends q ≡ None)
-      → ends_behind_all arrival outs ends ≡ ends
+      → ends_behind_all cause outs ends ≡ ends
   ends_as_they_are [] ends none = refl
   ends_as_they_are (sent ∷ outs) ends none =
-      ap (ends_behind_all arrival outs) (ends_nowhere sent outs ends none)
+      ap (ends_behind_all cause outs) (ends_nowhere sent outs ends none)
       ∙ ends_as_they_are outs ends none
 
   pub outs_if_ok : (outs : List Sent) (ends : Ends) → ((q : ℕ) → ends q ≡ None) → {E : Type 0}
       → (r : Result (Unit {0}) E) (own before : List Sent) → OnOk r (own ≡ before ++ outs)
-      → OnOk r (own ≡ before ++ all_put arrival outs ends)
+      → OnOk r (own ≡ before ++ all_put cause outs ends)
   outs_if_ok outs ends none (Ok done) own before put =
       put ∙ ap (λ more. before ++ more) (sym (outs_as_they_are outs ends none))
   outs_if_ok outs ends none (Err e) own before put = tt
 
   pub ends_if_ok : (outs : List Sent) (ends : Ends) → ((q : ℕ) → ends q ≡ None) → {E : Type 0}
-      → (r : Result (Unit {0}) E) → OnOk r (ends ≡ ends_behind_all arrival outs ends)
+      → (r : Result (Unit {0}) E) → OnOk r (ends ≡ ends_behind_all cause outs ends)
   ends_if_ok outs ends none (Ok done) = sym (ends_as_they_are outs ends none)
   ends_if_ok outs ends none (Err e) = tt
 

@@ -5,15 +5,17 @@ use Rattle.std.specs.List.{list_any}
 use Rattle.std.proofs.lemmas.List.Folds.{list_any-append}
 use Rattle.irc_batch.specs.Batches.{Sent, end_of, end_of_link, line_on, line_to}
 use Rattle.irc_pieces.specs.declared.count.Count.{Count}
+use Rattle.irc_pieces.specs.declared.count.Mark.{Mark}
 use Rattle.irc_pieces.specs.Tallies.{count_for}
 use Rattle.irc_link_end.specs.LinkEnds.{way_out}
 use Rattle.irc_link_end.specs.declared.greeting.WayOut.{WayOut}
 use Rattle.irc_link_end.specs.declared.greeting.WayOut.TheVariants.{Plain, WithWord, InPiece}
+use Rattle.irc_layer.specs.declared.end.Cause.{Cause}
 use Rattle.irc_layer.specs.declared.end.End.{End}
 use Rattle.irc_layer.specs.Ends.{Ends}
 use Rattle.irc_layer.specs.Putting.{all_put, body, count_at, count_before, count_out, ends_behind}
-use Rattle.irc_layer.specs.Putting.{is_echo, line_put, one_put, out_by, piece_lines, piece_out}
-use Rattle.irc_layer.specs.Putting.{with_line_out}
+use Rattle.irc_layer.specs.Putting.{is_echo, is_unspoken, line_put, one_put, out_by}
+use Rattle.irc_layer.specs.Putting.{piece_lines, piece_out, with_line_out}
 
 or_false : (b : Bool) → b ≡ (b || false)
 or_false true = refl
@@ -45,45 +47,46 @@ module _ (test : Sent → Bool) (none : (link : ℕ) (line : List ℕ) → test 
     if_fails true outs fails = fails
     if_fails false outs fails = refl
 
-    piece_fails : (link lines : ℕ) (line : List ℕ) (end : End)
-        → list_any test (piece_out link lines line end) ≡ false
-    piece_fails link lines line end =
-        list_any-append test (count_before link lines end) (line_on link line ∷ [])
+    piece_fails : (mark : Option Mark) (link lines : ℕ) (line : List ℕ) (end : End)
+        → list_any test (piece_out mark link lines line end) ≡ false
+    piece_fails mark link lines line end =
+        list_any-append test (count_before mark link lines end) (line_on link line ∷ [])
         ∙ ap (λ b. b || list_any test (line_on link line ∷ []))
         (if_fails (nat_eq end.left 0)
-        (count_out link (count_for lines None end.link.pieces.counts))
-        (count_fails link (count_for lines None end.link.pieces.counts)))
+        (count_out link (count_for lines mark end.link.pieces.counts))
+        (count_fails link (count_for lines mark end.link.pieces.counts)))
         ∙ one_fails link line
 
-    out_fails : (way : WayOut) (arrival : Option ℕ) (link lines : ℕ) (line : List ℕ) (end : End)
-        → list_any test (out_by way arrival link lines line end) ≡ false
-    out_fails Plain arrival link lines line end = one_fails link line
-    out_fails WithWord arrival link lines line end = one_fails link _
-    out_fails InPiece arrival link lines line end =
-        unless_fails (is_echo arrival link (body line)) (piece_out link lines line end)
-        (piece_fails link lines line end)
+    out_fails : (way : WayOut) (cause : Cause) (link lines : ℕ) (line : List ℕ) (end : End)
+        → list_any test (out_by way cause link lines line end) ≡ false
+    out_fails Plain cause link lines line end =
+        unless_fails (is_unspoken cause (body line)) (line_on link line ∷ []) (one_fails link line)
+    out_fails WithWord cause link lines line end = one_fails link _
+    out_fails InPiece cause link lines line end =
+        unless_fails (is_echo cause link (body line)) (piece_out cause.mark link lines line end)
+        (piece_fails cause.mark link lines line end)
 
-    line_fails : (arrival : Option ℕ) (link lines : ℕ) (line : List ℕ) (end : Option End)
-        → list_any test (line_put arrival link lines line end) ≡ false
-    line_fails arrival link lines line None = one_fails link line
-    line_fails arrival link lines line (Some end) =
-        out_fails (way_out end.link) arrival link lines line (with_line_out end)
+    line_fails : (cause : Cause) (link lines : ℕ) (line : List ℕ) (end : Option End)
+        → list_any test (line_put cause link lines line end) ≡ false
+    line_fails cause link lines line None = one_fails link line
+    line_fails cause link lines line (Some end) =
+        out_fails (way_out end.link) cause link lines line (with_line_out end)
 
-    one_kept : (arrival : Option ℕ) (sent : Sent) (outs : List Sent) (ends : Ends)
-        → list_any test (one_put arrival sent outs ends) ≡ test sent
-    one_kept arrival (line_on link line) outs ends =
-        line_fails arrival link (piece_lines link line outs) line (ends link)
+    one_kept : (cause : Cause) (sent : Sent) (outs : List Sent) (ends : Ends)
+        → list_any test (one_put cause sent outs ends) ≡ test sent
+    one_kept cause (line_on link line) outs ends =
+        line_fails cause link (piece_lines link line outs) line (ends link)
         ∙ sym (none link line)
-    one_kept arrival (line_to conn line) outs ends = sym (or_false (test (line_to conn line)))
-    one_kept arrival (end_of conn) outs ends = sym (or_false (test (end_of conn)))
-    one_kept arrival (end_of_link link reason) outs ends =
+    one_kept cause (line_to conn line) outs ends = sym (or_false (test (line_to conn line)))
+    one_kept cause (end_of conn) outs ends = sym (or_false (test (end_of conn)))
+    one_kept cause (end_of_link link reason) outs ends =
         sym (or_false (test (end_of_link link reason)))
 
-    pub all_kept : (arrival : Option ℕ) (outs : List Sent) (ends : Ends)
-        → list_any test (all_put arrival outs ends) ≡ list_any test outs
-    all_kept arrival [] ends = refl
-    all_kept arrival (sent ∷ outs) ends =
-        list_any-append test (one_put arrival sent outs ends)
-        (all_put arrival outs (ends_behind arrival sent outs ends))
-        ∙ (λ i. one_kept arrival sent outs ends i
-        || all_kept arrival outs (ends_behind arrival sent outs ends) i)
+    pub all_kept : (cause : Cause) (outs : List Sent) (ends : Ends)
+        → list_any test (all_put cause outs ends) ≡ list_any test outs
+    all_kept cause [] ends = refl
+    all_kept cause (sent ∷ outs) ends =
+        list_any-append test (one_put cause sent outs ends)
+        (all_put cause outs (ends_behind cause sent outs ends))
+        ∙ (λ i. one_kept cause sent outs ends i
+        || all_kept cause outs (ends_behind cause sent outs ends) i)

@@ -6,6 +6,7 @@ use Rattle.irc_batch.specs.Batches.{Sent, line_on, line_to}
 use Rattle.irc_link_end.specs.declared.greeting.Greeting.TheVariants.{Whole}
 use Rattle.irc_layer.specs.declared.end.End.{End}
 use Rattle.irc_layer.specs.Ends.{Ends}
+use Rattle.irc_layer.specs.Layers.{by_event, by_setting}
 use Rattle.irc_layer.specs.Putting.{all_put}
 
 -- an end that counts pieces and has met the other one: it has read so many pieces, and told so many
@@ -41,7 +42,7 @@ on link line = line_on link (line ++ crlf)
 -- what was read is told in front of the first line, and what clients are told goes as it is
 abbrev pub CountIsInFront : Type 0
 CountIsInFront =
-    all_put None
+    all_put (by_event None)
     (on 3 (codes ":al JOIN #c") ∷ line_to 1 (codes "hi") ∷ on 3 (codes ":al PART #c :bye")
     ∷ []) (two_links 5 3)
     ≡ on 3 (codes "COUNT 5 1") ∷ on 3 (codes ":al JOIN #c") ∷ line_to 1 (codes "hi")
@@ -50,7 +51,7 @@ CountIsInFront =
 -- servers that are lost together are one piece on each link
 abbrev pub LostServersAreOne : Type 0
 LostServersAreOne =
-    all_put None (on 3 (codes ":a.net SQUIT c.net :x") ∷ on 4 (codes ":a.net SQUIT c.net :x")
+    all_put (by_event None) (on 3 (codes ":a.net SQUIT c.net :x") ∷ on 4 (codes ":a.net SQUIT c.net :x")
     ∷ on 3 (codes ":a.net SQUIT d.net :x") ∷ on 4 (codes ":a.net SQUIT d.net :x")
     ∷ on 3 (codes ":al JOIN #c") ∷ []) (two_links 5 5)
     ≡ on 3 (codes "COUNT 5 2") ∷ on 3 (codes ":a.net SQUIT c.net :x") ∷ on 4 (codes "COUNT 5 2")
@@ -60,5 +61,24 @@ LostServersAreOne =
 -- a KILL does not go back on the link by which the NICK came that it answers
 abbrev pub KillDoesNotGoBack : Type 0
 KillDoesNotGoBack =
-    all_put (Some 3) (on 3 (codes ":a.net KILL zed :x") ∷ on 4 (codes ":a.net KILL zed :x") ∷ [])
+    all_put (by_event (Some 3)) (on 3 (codes ":a.net KILL zed :x") ∷ on 4 (codes ":a.net KILL zed :x") ∷ [])
     (two_links 5 5) ≡ on 4 (codes ":a.net KILL zed :x") ∷ []
+
+-- What is set for somebody who is gone is marked.
+abbrev pub SetIsMarked : Type 0
+SetIsMarked =
+    all_put (by_setting 3) (line_to 1 (codes "hi") ∷ on 4 (codes ":b.net MODE #c +i") ∷ [])
+    (two_links 5 5)
+    ≡ line_to 1 (codes "hi") ∷ on 4 (codes "COUNT 5 1 set") ∷ on 4 (codes ":b.net MODE #c +i") ∷ []
+
+-- A KICK of a server does not go on a link without counts; 5 is one.
+abbrev pub without_counts : Ends
+without_counts link = if nat_eq 5 link then Some (record (counting 0 0) {
+  link = record (counting 0 0).link { offers = false };
+}) else None
+
+abbrev pub KickIsUnspoken : Type 0
+KickIsUnspoken =
+    all_put (by_setting 3) (on 5 (codes ":b.net KICK #c bo :out")
+    ∷ on 5 (codes ":b.net MODE #c +i") ∷ []) without_counts
+    ≡ on 5 (codes ":b.net MODE #c +i") ∷ []

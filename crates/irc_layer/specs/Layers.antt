@@ -7,25 +7,30 @@
 --   a line that makes a piece whole              the server is given each line as it is meant here
 --   a count of more than was put out             the link is closed, and the server told so
 use Rattle.std.specs.Prelude.{◌≡◌, ℕ, Bool, true, false, Option, Some, None, Result, Ok, Err, List}
-use Rattle.std.specs.Prelude.{[], ◌∷◌, ◌++◌, is_some}
+use Rattle.std.specs.Prelude.{[], ◌∷◌, ◌++◌, is_some, unwrap_or}
 use Rattle.irc_line.specs.Messages.{text}
 use Rattle.irc_batch.specs.declared.close_reason.CloseReason.{CloseReason}
 use Rattle.irc_batch.specs.Batches.{Batch, Sent, end_of_link}
-use Rattle.irc_burst_lines.specs.DeedLines.{kill_parts}
+use Rattle.irc_burst_lines.specs.DeedLines.{kill_parts, njoin_parts}
+use Rattle.irc_pieces.specs.declared.count.Mark.{Mark}
+use Rattle.irc_pieces.specs.declared.count.Mark.TheVariants.{Set}
 use Rattle.irc_pieces.specs.declared.piece_end.Heard.{Heard}
 use Rattle.irc_pieces.specs.declared.piece_end.Heard.TheVariants as heard
 use Rattle.irc_crossing.specs.declared.hearing.Given.{Given}
 use Rattle.irc_crossing.specs.declared.hearing.Given.TheVariants.{AsItCame, Changed, LeftOut}
-use Rattle.irc_crossing.specs.declared.hearing.Given.TheVariants.{Kills}
+use Rattle.irc_crossing.specs.declared.hearing.Given.TheVariants.{Brings, Kills}
+use Rattle.irc_crossing.specs.declared.hearing.Given.TheVariants.{Sets as SetsLine}
 use Rattle.irc_crossing.specs.Hearing.{given}
 use Rattle.irc_stage.specs.View.{View}
 use Rattle.irc_server.specs.declared.event.Event.{Event}
 use Rattle.irc_server.specs.declared.event.Event.TheVariants.{Connect, Line, Gone, LinkUp, LinkLine}
 use Rattle.irc_server.specs.declared.event.Event.TheVariants.{LinkDown}
 use Rattle.irc_server.specs.declared.event.ServerFault.{ServerFault}
+use Rattle.irc_server.specs.LinesThatSet.{IsSetBy}
 use Rattle.irc_server.specs.ReadEvents.{IsHandled}
 use Rattle.irc_engine.specs.Machines.{is_out_of_memory, IsConnectedBy}
 use Rattle.irc_engine.specs.Noting.{far_of}
+use Rattle.irc_layer.specs.declared.end.Cause.{Cause}
 use Rattle.irc_layer.specs.declared.end.End.{End}
 use Rattle.irc_layer.specs.declared.layer.Layer.{Layer}
 use Rattle.irc_layer.specs.Ends.{change_end, end_at, end_hearing, ends_followed, heard_if, met_if}
@@ -65,14 +70,18 @@ putting more state = record state { outs = state.outs ++ more }
 
 -- ---- the server is given an event
 
+-- why it puts something out: by an event, with the link by which the line came that it is
+abbrev pub by_event : Option ℕ → Cause
+by_event arrival = record { arrival = arrival; mark = None }
+
 -- what the server puts out goes on
 pub record Passes (arrival : Option ℕ) (event : Event) (old new : State) : Type 0 where
   pub outs : List Sent
   pub is_handled : IsHandled old.layer.server event [] (Ok tt) new.layer.server outs
-  pub ends_are : new.layer.ends ≡ ends_behind_all arrival outs
+  pub ends_are : new.layer.ends ≡ ends_behind_all (by_event arrival) outs
       (ends_followed event old.layer.plain old.layer.ends)
   pub plain_is : new.layer.plain ≡ old.layer.plain
-  pub outs_are : new.outs ≡ old.outs ++ all_put arrival outs
+  pub outs_are : new.outs ≡ old.outs ++ all_put (by_event arrival) outs
       (ends_followed event old.layer.plain old.layer.ends)
 
 -- the server refuses it, and nothing has changed
@@ -104,6 +113,10 @@ meets link state =
     with_ends (change_end link (met_if (is_some (far_of state.layer.server link)))
     state.layer.ends) state
 
+-- the name of the server at the other end of a link, where it is known
+abbrev pub peer_of : Option View → ℕ → List ℕ
+peer_of server link = unwrap_or (far_of server link) []
+
 -- the server is given a line
 pub record Gives (link : ℕ) (line : List ℕ) (old new : State) : Type 0 where
   pub between : State
@@ -111,6 +124,42 @@ pub record Gives (link : ℕ) (line : List ℕ) (old new : State) : Type 0 where
   pub passes : PassesOrNot is_taken (Some link) (LinkLine link (record { items = line })) old
       between
   pub new_is : new ≡ meets link between
+
+-- The server is told to set what a line of the server at the other end says; of a link that it does
+-- not know it is told nothing.
+abbrev pub by_setting : ℕ → Cause
+by_setting link = record { arrival = Some link; mark = Some Set }
+
+pub record IsSet (link : ℕ) (line : List ℕ) (old new : State) : Type 0 where
+  pub outs : List Sent
+  pub is_set : IsSetBy old.layer.server link line [] (Ok tt) new.layer.server outs
+  pub ends_are : new.layer.ends ≡ ends_behind_all (by_setting link) outs old.layer.ends
+  pub plain_is : new.layer.plain ≡ old.layer.plain
+  pub outs_are : new.outs ≡ old.outs ++ all_put (by_setting link) outs old.layer.ends
+
+pub data Sets (link : ℕ) (line : List ℕ) (old new : State) : Type 0 where
+  sets : IsSet link line old new → Sets link line old new
+  not_open : (fault : ServerFault) → is_out_of_memory fault ≡ false
+      → IsSetBy old.layer.server link line [] (Err fault) old.layer.server [] → new ≡ old
+      → Sets link line old new
+
+-- a line that is marked is set, another is given
+abbrev pub Does : Option Mark → ℕ → List ℕ → State → State → Type 0
+Does None link line old new = Gives link line old new
+Does (Some Set) link line old new = Sets link line old new
+
+-- A user comes to a channel as an operator, as the server at the other end tells it.
+abbrev pub member_by : List ℕ → (nick channel : List ℕ) → List ℕ
+member_by peer nick channel = body (text (njoin_parts peer channel
+    ((nick, record { op = true; voice = false }) ∷ [])))
+
+abbrev pub BringsBy : Option (List ℕ) → ℕ → (nick channel : List ℕ) → State → State → Type 0
+BringsBy None link nick channel old new = new ≡ old
+BringsBy (Some peer) link nick channel old new = Gives link (member_by peer nick channel) old new
+
+abbrev pub BringsOne : ℕ → (nick channel : List ℕ) → State → State → Type 0
+BringsOne link nick channel old new =
+    BringsBy (far_of old.layer.server link) link nick channel old new
 
 -- Users of one nickname are killed, as by the server at the other end.
 abbrev pub kill_by : List ℕ → List ℕ → List ℕ
@@ -133,28 +182,31 @@ pub record GivesKills (link : ℕ) (nick : List ℕ) (other : Option (List ℕ))
   pub first : GivesKill link nick old between
   pub second : GivesKillIf link other between new
 
-abbrev pub GivesAs : Given → ℕ → List ℕ → State → State → Type 0
-GivesAs AsItCame link line old new = Gives link line old new
-GivesAs (Changed text) link line old new = Gives link (body text.items) old new
-GivesAs LeftOut link line old new = new ≡ old
-GivesAs (Kills nick other) link line old new = GivesKills link nick other old new
+abbrev pub GivesAs : Given → Option Mark → ℕ → List ℕ → State → State → Type 0
+GivesAs AsItCame mark link line old new = Does mark link line old new
+GivesAs (Changed text) mark link line old new = Does mark link (body text.items) old new
+GivesAs LeftOut mark link line old new = new ≡ old
+GivesAs (Kills nick other) mark link line old new = GivesKills link nick other old new
+GivesAs (Brings nick channel) mark link line old new = BringsOne link nick channel old new
+GivesAs (SetsLine text) mark link line old new = Sets link (body text.items) old new
 
 -- what the server is given for a line of a piece; nothing where the link was closed before it
-abbrev pub HearsFrom : Option End → ℕ → List ℕ → State → State → Type 0
-HearsFrom None link line old new = new ≡ old
-HearsFrom (Some end) link line old new =
-    GivesAs (given end.log (is_held old.layer.server link line) line) link line
+abbrev pub given_at : Option End → (peer : List ℕ) → Bool → List ℕ → Given
+given_at None peer is_held line = LeftOut
+given_at (Some end) peer is_held line = given end.log peer is_held line
+
+abbrev pub HearsOne : Option Mark → ℕ → List ℕ → State → State → Type 0
+HearsOne mark link line old new =
+    GivesAs (given_at (old.layer.ends link) (peer_of old.layer.server link)
+    (is_held old.layer.server link line) line) mark link line
     (with_ends (change_end link (with_log_after line) old.layer.ends) old) new
 
-abbrev pub HearsOne : ℕ → List ℕ → State → State → Type 0
-HearsOne link line old new = HearsFrom (old.layer.ends link) link line old new
-
 -- all lines of a piece, in order
-pub data HearsAll (link : ℕ) : List (List ℕ) → State → State → Type 0 where
-  all_heard : {state : State} → HearsAll link [] state state
+pub data HearsAll (mark : Option Mark) (link : ℕ) : List (List ℕ) → State → State → Type 0 where
+  all_heard : {state : State} → HearsAll mark link [] state state
   hears_more : {line : List ℕ} {lines : List (List ℕ)} {old between new : State}
-      → HearsOne link line old between → HearsAll link lines between new
-      → HearsAll link (line ∷ lines) old new
+      → HearsOne mark link line old between → HearsAll mark link lines between new
+      → HearsAll mark link (line ∷ lines) old new
 
 -- the count goes alone, where so much was read that it is to
 abbrev pub tells_count : ℕ → State → State
@@ -162,9 +214,10 @@ tells_count link state =
     putting (count_at link (state.layer.ends link))
     (with_ends (change_end link with_count_out state.layer.ends) state)
 
-pub record HearsPiece (link : ℕ) (lines : List (List ℕ)) (old new : State) : Type 0 where
+pub record HearsPiece (mark : Option Mark) (link : ℕ) (lines : List (List ℕ))
+    (old new : State) : Type 0 where
   pub between : State
-  pub heard : HearsAll link lines old between
+  pub heard : HearsAll mark link lines old between
   pub new_is : new ≡ tells_count link between
 
 -- the link is closed, and the server is told that it is lost; one that it does not know is none
@@ -180,7 +233,7 @@ pub record Shuts (link : ℕ) (reason : CloseReason) (old new : State) : Type 0 
 
 abbrev pub HearsAs : Heard → ℕ → State → State → Type 0
 HearsAs heard.Nothing link old new = new ≡ old
-HearsAs (heard.Piece piece) link old new = HearsPiece link piece.lines old new
+HearsAs (heard.Piece piece) link old new = HearsPiece piece.mark link piece.lines old new
 HearsAs (heard.Fault reason) link old new = Shuts link reason old new
 
 abbrev pub HearsIf : Option End → ℕ → List ℕ → State → State → Type 0

@@ -12,8 +12,13 @@
 --                                                            :a.net SQUIT d.net :..
 -- Not put out is one kind of line: a KILL on the link by which the NICK came that it answers. The
 -- other end finds the two users with one nickname as it reads this one's NICK.
-use Rattle.std.specs.Prelude.{ℕ, suc, ◌-◌, Bool, false, ◌&&◌, Option, Some, None, Result, Ok, Err}
-use Rattle.std.specs.Prelude.{List, [], ◌∷◌, ◌++◌, codes, length, take, min, nat_eq}
+-- What a server does as it is told to, for somebody who is gone, is marked:
+--     to c.net    :b.net MODE #c +i          a.net writes    COUNT 5 1 set
+--                                                            :b.net MODE #c +i
+-- On a link that does not count such a MODE or TOPIC goes alone, and raises there; a KICK does not
+-- go.
+use Rattle.std.specs.Prelude.{ℕ, suc, ◌-◌, Bool, false, ◌&&◌, is_some, Option, Some, None, Result}
+use Rattle.std.specs.Prelude.{Ok, Err, List, [], ◌∷◌, ◌++◌, codes, length, take, min, nat_eq}
 use Rattle.std.specs.Prelude.{nat_le, if◌then◌else◌}
 use Rattle.std.specs.Option.{option_map_or}
 use Rattle.irc_line.specs.declared.reading.LineFault.{LineFault}
@@ -21,6 +26,7 @@ use Rattle.irc_line.specs.Messages.{Parsed, text}
 use Rattle.irc_line.specs.Reading.{read_of}
 use Rattle.irc_batch.specs.Batches.{Sent, end_of, end_of_link, line_on, line_to}
 use Rattle.irc_pieces.specs.declared.count.Count.{Count}
+use Rattle.irc_pieces.specs.declared.count.Mark.{Mark}
 use Rattle.irc_pieces.specs.Counting.{count_parts}
 use Rattle.irc_pieces.specs.Tallies.{count_alone, count_for}
 use Rattle.irc_link_end.specs.LinkEnds.{after_count_out, after_line_out, after_piece_out, way_out}
@@ -28,10 +34,11 @@ use Rattle.irc_link_end.specs.Offers.{with_word}
 use Rattle.irc_link_end.specs.declared.greeting.WayOut.{WayOut}
 use Rattle.irc_link_end.specs.declared.greeting.WayOut.TheVariants.{Plain, WithWord, InPiece}
 use Rattle.irc_link_words.specs.Words.{is_command}
-use Rattle.irc_crossing.specs.Hearing.{change_told}
-use Rattle.irc_crossing.specs.Lines.{is_kill_line}
+use Rattle.irc_crossing.specs.Hearing.{logged_of}
+use Rattle.irc_crossing.specs.Lines.{is_kick_line, is_kill_line}
 use Rattle.irc_crossing.specs.declared.log.Entry.{Entry}
 use Rattle.irc_crossing.specs.Logs.{put_out}
+use Rattle.irc_layer.specs.declared.end.Cause.{Cause}
 use Rattle.irc_layer.specs.declared.end.End.{End}
 use Rattle.irc_layer.specs.declared.putting.NextLine.{NextLine}
 use Rattle.irc_layer.specs.declared.putting.NextLine.TheVariants.{Another, Elsewhere, Squit}
@@ -46,9 +53,18 @@ is_kill_read (Ok message) = is_kill_line message
 is_kill_read (Err fault) = false
 
 -- whether a line is a KILL on the link by which the line came that is being done
-abbrev pub is_echo : Option ℕ → ℕ → List ℕ → Bool
-is_echo arrival link line =
-    option_map_or (λ came. nat_eq came link) arrival false && is_kill_read (read_of line)
+abbrev pub is_echo : Cause → ℕ → List ℕ → Bool
+is_echo cause link line =
+    option_map_or (λ came. nat_eq came link) cause.arrival false && is_kill_read (read_of line)
+
+-- Whether a line is one that a link without counts has no place for: a KICK of a server, by which it
+-- sets what somebody did who is gone.
+abbrev pub is_kick_read : Result Parsed LineFault → Bool
+is_kick_read (Ok message) = is_kick_line message
+is_kick_read (Err fault) = false
+
+abbrev pub is_unspoken : Cause → List ℕ → Bool
+is_unspoken cause line = is_some cause.mark && is_kick_read (read_of line)
 
 -- whether a line tells that a server is lost
 abbrev pub is_squit_read : Result Parsed LineFault → Bool
@@ -89,16 +105,16 @@ count_out link None = []
 count_out link (Some count) = line_on link (text (count_parts count)) ∷ []
 
 -- a piece of so many lines begins, unless one has begun
-abbrev pub count_before : ℕ → ℕ → End → List Sent
-count_before link lines end =
-    if nat_eq end.left 0 then count_out link (count_for lines None end.link.pieces.counts) else []
+abbrev pub count_before : Option Mark → ℕ → ℕ → End → List Sent
+count_before mark link lines end =
+    if nat_eq end.left 0 then count_out link (count_for lines mark end.link.pieces.counts) else []
 
 abbrev pub with_begun : ℕ → End → End
 with_begun lines end =
     if nat_eq end.left 0 then record end { link = after_piece_out end.link; left = lines } else end
 
-abbrev pub piece_out : ℕ → ℕ → List ℕ → End → List Sent
-piece_out link lines line end = count_before link lines end ++ line_on link line ∷ []
+abbrev pub piece_out : Option Mark → ℕ → ℕ → List ℕ → End → List Sent
+piece_out mark link lines line end = count_before mark link lines end ++ line_on link line ∷ []
 
 -- A log that is full begins anew: so a peer that never counts costs no more, and lines that come
 -- then are given as they came.
@@ -109,68 +125,69 @@ with_room log = if nat_le 1048576 (length log) then [] else log
 abbrev pub with_logged : List ℕ → End → End
 with_logged line end = record end {
   left = end.left - 1;
-  log = put_out end.link.pieces.counts.sent (change_told (body line)) (with_room end.log);
+  log = put_out end.link.pieces.counts.sent (logged_of (body line)) (with_room end.log);
 }
 
 abbrev pub behind_piece : ℕ → List ℕ → End → End
 behind_piece lines line end = with_logged line (with_begun lines end)
 
 -- `lines` is how many lines a piece has that begins here
-abbrev pub out_by : WayOut → Option ℕ → ℕ → ℕ → List ℕ → End → List Sent
-out_by Plain arrival link lines line end = line_on link line ∷ []
-out_by WithWord arrival link lines line end = line_on link (with_word (body line)) ∷ []
-out_by InPiece arrival link lines line end =
-    if is_echo arrival link (body line) then [] else piece_out link lines line end
+abbrev pub out_by : WayOut → Cause → ℕ → ℕ → List ℕ → End → List Sent
+out_by Plain cause link lines line end =
+    if is_unspoken cause (body line) then [] else line_on link line ∷ []
+out_by WithWord cause link lines line end = line_on link (with_word (body line)) ∷ []
+out_by InPiece cause link lines line end =
+    if is_echo cause link (body line) then [] else piece_out cause.mark link lines line end
 
-abbrev pub end_by : WayOut → Option ℕ → ℕ → ℕ → List ℕ → End → End
-end_by InPiece arrival link lines line end =
-    if is_echo arrival link (body line) then end else behind_piece lines line end
-end_by Plain arrival link lines line end = end
-end_by WithWord arrival link lines line end = end
+abbrev pub end_by : WayOut → Cause → ℕ → ℕ → List ℕ → End → End
+end_by InPiece cause link lines line end =
+    if is_echo cause link (body line) then end else behind_piece lines line end
+end_by Plain cause link lines line end = end
+end_by WithWord cause link lines line end = end
 
 -- an end that has put out a line more of those with which a link begins
 abbrev pub with_line_out : End → End
 with_line_out end = record end { link = after_line_out end.link }
 
 -- what a line on a link is put out as, and the end behind it
-abbrev pub line_out : Option ℕ → ℕ → ℕ → List ℕ → End → List Sent
-line_out arrival link lines line end =
-    out_by (way_out end.link) arrival link lines line (with_line_out end)
+abbrev pub line_out : Cause → ℕ → ℕ → List ℕ → End → List Sent
+line_out cause link lines line end =
+    out_by (way_out end.link) cause link lines line (with_line_out end)
 
-abbrev pub behind_line : Option ℕ → ℕ → ℕ → List ℕ → End → End
-behind_line arrival link lines line end =
-    end_by (way_out end.link) arrival link lines line (with_line_out end)
+abbrev pub behind_line : Cause → ℕ → ℕ → List ℕ → End → End
+behind_line cause link lines line end =
+    end_by (way_out end.link) cause link lines line (with_line_out end)
 
--- ---- all that a server puts out; `arrival` is the link by which the line came that it handles
+-- ---- all that a server puts out, for a cause
 
-abbrev pub line_put : Option ℕ → ℕ → ℕ → List ℕ → Option End → List Sent
-line_put arrival link lines line None = line_on link line ∷ []
-line_put arrival link lines line (Some end) = line_out arrival link lines line end
+abbrev pub line_put : Cause → ℕ → ℕ → List ℕ → Option End → List Sent
+line_put cause link lines line None = line_on link line ∷ []
+line_put cause link lines line (Some end) = line_out cause link lines line end
 
 -- one thing, behind which this is put out
-abbrev pub one_put : Option ℕ → Sent → List Sent → Ends → List Sent
-one_put arrival (line_on link line) outs ends =
-    line_put arrival link (piece_lines link line outs) line (ends link)
-one_put arrival (line_to conn line) outs ends = line_to conn line ∷ []
-one_put arrival (end_of conn) outs ends = end_of conn ∷ []
-one_put arrival (end_of_link link reason) outs ends = end_of_link link reason ∷ []
+abbrev pub one_put : Cause → Sent → List Sent → Ends → List Sent
+one_put cause (line_on link line) outs ends =
+    line_put cause link (piece_lines link line outs) line (ends link)
+one_put cause (line_to conn line) outs ends = line_to conn line ∷ []
+one_put cause (end_of conn) outs ends = end_of conn ∷ []
+one_put cause (end_of_link link reason) outs ends = end_of_link link reason ∷ []
 
-abbrev pub ends_behind : Option ℕ → Sent → List Sent → Ends → Ends
-ends_behind arrival (line_on link line) outs ends =
-    change_end link (behind_line arrival link (piece_lines link line outs) line) ends
-ends_behind arrival (end_of_link link reason) outs ends = with_end link None ends
-ends_behind arrival (line_to conn line) outs ends = ends
-ends_behind arrival (end_of conn) outs ends = ends
+abbrev pub ends_behind : Cause → Sent → List Sent → Ends → Ends
+ends_behind cause (line_on link line) outs ends =
+    change_end link (behind_line cause link (piece_lines link line outs) line) ends
+ends_behind cause (end_of_link link reason) outs ends = with_end link None ends
+ends_behind cause (line_to conn line) outs ends = ends
+ends_behind cause (end_of conn) outs ends = ends
 
-abbrev pub all_put : Option ℕ → List Sent → Ends → List Sent
-all_put arrival [] ends = []
-all_put arrival (sent ∷ outs) ends =
-    one_put arrival sent outs ends ++ all_put arrival outs (ends_behind arrival sent outs ends)
+abbrev pub all_put : Cause → List Sent → Ends → List Sent
+all_put cause [] ends = []
+all_put cause (sent ∷ outs) ends =
+    one_put cause sent outs ends ++ all_put cause outs (ends_behind cause sent outs ends)
 
-abbrev pub ends_behind_all : Option ℕ → List Sent → Ends → Ends
-ends_behind_all arrival [] ends = ends
-ends_behind_all arrival (sent ∷ outs) ends =
-    ends_behind_all arrival outs (ends_behind arrival sent outs ends)
+abbrev pub ends_behind_all : Cause → List Sent → Ends → Ends
+ends_behind_all cause [] ends = ends
+ends_behind_all cause (sent ∷ outs) ends =
+    ends_behind_all cause outs (ends_behind cause sent outs ends)
 
 -- ---- a count alone
 

@@ -7,16 +7,17 @@ ghost use Rattle.irc_crossing.specs.Hearing.{given};
 ghost use Rattle.irc_link_end.specs.LinkEnds.{heard_at};
 ghost use Rattle.irc_layer.specs.Ends.{end_hearing, is_plain, met_if, new_end, with_log_after};
 ghost use Rattle.irc_layer.specs.Putting.{behind_line, behind_piece, body, count_at, count_before};
-ghost use Rattle.irc_layer.specs.Putting.{count_out, is_echo, is_kill_read, is_squit, line_out};
+ghost use Rattle.irc_layer.specs.Putting.{count_out, is_echo, is_kick_read, is_kill_read, is_squit};
+ghost use Rattle.irc_layer.specs.Putting.{is_unspoken, line_out};
 ghost use Rattle.irc_layer.specs.Putting.{piece_out, with_begun, with_count_out, with_room};
 
 use irc_batch::Batch;
-use irc_crossing::{Given, Log, change_told};
+use irc_crossing::{Given, Log};
 use irc_line::{Line, parse};
 use irc_link_end::{LinkEnd, WayOut, with_word};
 use irc_link_words::is_command;
 use irc_names::{ServerName, same};
-use irc_pieces::{Count, Heard, count_text};
+use irc_pieces::{Count, Heard, Mark, count_text};
 use std::alloc::{AllocError, Global};
 
 /// How many changes a log holds (our own choice): more than are on their way between two daemons,
@@ -31,6 +32,15 @@ pub(crate) struct End {
     pub left: u64,
     /// What it has put out, and the other end had not read when it wrote last.
     pub log: Log,
+}
+
+/// Why a server puts something out.
+#[derive(Clone, Copy, Drop)]
+pub(crate) struct Cause {
+    /// The link by which the line came that it handles, if it handles one.
+    pub arrival: Option<u64>,
+    /// What the lines say beside themselves that it puts out on links.
+    pub mark: Option<Mark>,
 }
 
 /// On which link a line goes, and how many lines a piece has that begins with it.
@@ -70,13 +80,16 @@ impl End {
         Ok(heard)
     }
 
-    /// What the server is given for a line; `is_held` is whether somebody who is not behind this
-    /// link has the nickname that it brings.
-    pub fn give(&mut self, line: &[u8], is_held: bool) -> Given
-        ensures given { result ≡ given self.old.log is_held line.now }
-        ensures after { self.new ≡ with_log_after line.now self.old }
+    /// What the server is given for a line; `peer` is the server at the other end, and `is_held` is
+    /// whether what the line brings is there already.
+    ///
+    /// # Errors
+    /// Where memory runs out.
+    pub fn give(&mut self, line: &[u8], peer: &[u8], is_held: bool) -> Result<Given, AllocError>
+        ensures given { IfOk result (λ became. became ≡ given self.old.log peer.now is_held line.now) }
+        ensures after { OnOk result (self.new ≡ with_log_after line.now self.old) }
     {
-        self.log.hear(line, is_held)
+        self.log.hear(line, peer, is_held)
     }
 
     /// The other end has named itself, if it has.
@@ -88,43 +101,49 @@ impl End {
         }
     }
 
-    /// Puts out a line on this link, with which a piece of so many lines begins if none has begun;
-    /// `arrival` is the link by which the line came that the server handles.
+    /// Puts out a line on this link, with which a piece of so many lines begins if none has begun.
     ///
     /// # Errors
     /// Where memory runs out.
     pub fn put_line(
         &mut self,
-        arrival: Option<u64>,
+        cause: Cause,
         to: PieceOn,
         line: &[u8],
         out: &mut Batch,
     ) -> Result<(), AllocError>
         requires fits { length line.now ≤ max_text }
         ensures outs { OnOk result
-            (out.new.outs ≡ out.old.outs ++ line_out arrival to.link to.lines line.now self.old) }
+            (out.new.outs ≡ out.old.outs ++ line_out cause to.link to.lines line.now self.old) }
         ensures after { OnOk result
-            (self.new ≡ behind_line arrival to.link to.lines line.now self.old) }
+            (self.new ≡ behind_line cause to.link to.lines line.now self.old) }
     {
         match self.link.put_out_line() {
+            WayOut::Plain if is_unspoken(cause, body(line)) => Ok(()),
             WayOut::Plain => out.put_on(to.link, line),
             WayOut::WithWord => out.put_on(to.link, with_word(body(line)).as_slice()),
-            WayOut::InPiece if is_echo(arrival, to.link, body(line)) => Ok(()),
-            WayOut::InPiece => self.put_piece(to, line, out),
+            WayOut::InPiece if is_echo(cause, to.link, body(line)) => Ok(()),
+            WayOut::InPiece => self.put_piece(cause.mark, to, line, out),
         }
     }
 
     /// Puts out a line of a piece.
-    fn put_piece(&mut self, to: PieceOn, line: &[u8], out: &mut Batch) -> Result<(), AllocError>
+    fn put_piece(
+        &mut self,
+        mark: Option<Mark>,
+        to: PieceOn,
+        line: &[u8],
+        out: &mut Batch,
+    ) -> Result<(), AllocError>
         requires fits { length line.now ≤ max_text }
-        ensures outs { OnOk result
-            (out.new.outs ≡ out.old.outs ++ piece_out to.link to.lines line.now self.old) }
+        ensures outs { OnOk result (out.new.outs
+            ≡ out.old.outs ++ piece_out mark to.link to.lines line.now self.old) }
         ensures after { OnOk result (self.new ≡ behind_piece to.lines line.now self.old) }
     {
-        self.begin(to, out)?;
+        self.begin(mark, to, out)?;
         self.left = self.left.saturating_sub(1);
         self.make_room();
-        self.log.put_out(self.link.sent(), change_told(body(line)))?;
+        self.log.put_out(self.link.sent(), body(line))?;
         out.put_on(to.link, line)
     }
 
@@ -138,16 +157,21 @@ impl End {
     }
 
     /// A piece begins, unless one has begun.
-    fn begin(&mut self, to: PieceOn, out: &mut Batch) -> Result<(), AllocError>
+    fn begin(
+        &mut self,
+        mark: Option<Mark>,
+        to: PieceOn,
+        out: &mut Batch,
+    ) -> Result<(), AllocError>
         ensures outs { OnOk result
-            (out.new.outs ≡ out.old.outs ++ count_before to.link to.lines self.old) }
+            (out.new.outs ≡ out.old.outs ++ count_before mark to.link to.lines self.old) }
         ensures after { OnOk result (self.new ≡ with_begun to.lines self.old) }
     {
         if self.left > 0 {
             return Ok(());
         }
         self.left = to.lines;
-        let count = self.link.put_out_piece(to.lines, None);
+        let count = self.link.put_out_piece(to.lines, mark);
         put_count(to.link, count, out)
     }
 
@@ -192,10 +216,10 @@ pub(crate) fn body(line: &[u8]) -> &[u8]
 }
 
 /// Whether a line is a KILL on the link by which the line came that is being done.
-fn is_echo(arrival: Option<u64>, link: u64, line: &[u8]) -> bool
-    ensures { result ≡ is_echo arrival link line.now }
+fn is_echo(cause: Cause, link: u64, line: &[u8]) -> bool
+    ensures { result ≡ is_echo cause link line.now }
 {
-    match arrival {
+    match cause.arrival {
         Some(came) if came == link => is_kill(line),
         _ => false,
     }
@@ -216,6 +240,22 @@ fn is_kill(line: &[u8]) -> bool
 {
     match parse(line) {
         Ok(message) => is_command(b"KILL", message.command),
+        Err(_) => false,
+    }
+}
+
+/// Whether a line is one that a link without counts has no place for.
+fn is_unspoken(cause: Cause, line: &[u8]) -> bool
+    ensures { result ≡ is_unspoken cause line.now }
+{
+    cause.mark.is_some() && is_kick(line)
+}
+
+fn is_kick(line: &[u8]) -> bool
+    ensures { result ≡ is_kick_read (read_of line.now) }
+{
+    match parse(line) {
+        Ok(message) => is_command(b"KICK", message.command),
         Err(_) => false,
     }
 }

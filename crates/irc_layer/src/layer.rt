@@ -1,31 +1,33 @@
 //! A layer around a server.
-ghost use Rattle.std.specs.Prelude.{◌≡◌, ◌++◌, None, is_some, true, false, IfErr, IfNone, IfOk};
+ghost use Rattle.std.specs.Prelude.{◌≡◌, ◌++◌, None, is_some, true, false, IfErr, IfOk};
 ghost use Rattle.std.specs.Prelude.{OnOk};
-ghost use Rattle.std.specs.Option.{option_copied, option_map};
-ghost use Rattle.irc_crossing.specs.Hearing.{given};
+ghost use Rattle.std.specs.Option.{option_copied};
 ghost use Rattle.irc_engine.specs.Machines.{is_out_of_memory, IsConnectedBy, IsRefusal};
 ghost use Rattle.irc_engine.specs.Machines.{IsStillConnected};
 ghost use Rattle.irc_engine.specs.Noting.{far_of};
 ghost use Rattle.irc_pieces.specs.Pieces.{lines_of};
 ghost use Rattle.irc_layer.specs.Ends.{change_end, end_at, end_hearing, ends_followed, heard_if};
 ghost use Rattle.irc_layer.specs.Ends.{met_if, with_log_after};
-ghost use Rattle.irc_layer.specs.Layers.{state_of, Gives, GivesKill, GivesKills, HearsAll, HearsIf};
+ghost use Rattle.irc_burst_lines.specs.Loops.Telling.{told_member};
+ghost use Rattle.irc_layer.specs.Layers.{given_at, peer_of, state_of, BringsOne, Does, Gives};
+ghost use Rattle.irc_layer.specs.Layers.{GivesKill, GivesKills, HearsAll, HearsIf, Sets};
 ghost use Rattle.irc_layer.specs.Layers.{HearsOne, IsAround, IsRefusedBy, Passes, PassesOrNot};
 ghost use Rattle.irc_layer.specs.Layers.{is_heard, Handles, IsConnectedIf, Shuts};
 ghost use Rattle.irc_layer.specs.Putting.{body, count_at, with_count_out};
-ghost use Rattle.irc_layer.specs.declared.end.End.{End as LinksEnd};
 
-use crate::end::{End, body};
+use crate::end::{Cause, End, body};
 use crate::holding::is_held;
 use crate::putting::{Ends, begin, end, put_all};
 use irc_batch::{Batch, CloseReason};
-use irc_burst_lines::kill_text;
+use irc_burst_lines::{kill_text, njoin_text};
+use irc_channels::Flags;
 use irc_crossing::Given;
 use irc_engine::Machine;
 use irc_line::{Line, Text};
+use irc_link_reader::NewMember;
 use irc_moments::Moment;
-use irc_names::{Nick, ServerName, copied};
-use irc_pieces::Heard;
+use irc_names::{ChannelName, Nick, ServerName, copied};
+use irc_pieces::{Heard, Mark};
 use irc_server::{Event, Server, ServerFault};
 use std::alloc::{AllocError, Global};
 use std::collections::BTreeMap;
@@ -80,7 +82,11 @@ impl Layer {
         self.held.clear();
         Machine::handle(&mut self.server, event, &mut self.held)?;
         follow(&mut self.ends, self.alloc, self.plain.as_slice(), event)?;
-        put_all(&mut self.ends, arrival, &mut self.held, out)?;
+        let cause = Cause {
+            arrival,
+            mark: None,
+        };
+        put_all(&mut self.ends, cause, &mut self.held, out)?;
         Ok(())
     }
 
@@ -131,7 +137,7 @@ impl Layer {
             Heard::Nothing => Ok(()),
             Heard::Fault(reason) => self.shut(link, reason, out),
             Heard::Piece(piece) => {
-                self.hear_all(link, piece.lines, out)?;
+                self.hear_all(piece.mark, link, piece.lines, out)?;
                 tell_count(&mut self.ends, link, out)
             }
         }
@@ -153,38 +159,108 @@ impl Layer {
     /// The lines of a piece have come.
     fn hear_all(
         &mut self,
+        mark: Option<Mark>,
         link: u64,
         lines: Vec<Line, Global>,
         out: &mut Batch,
     ) -> Result<(), AllocError>
         ensures heard { OnOk result
-            (HearsAll link (lines_of lines.items) (state_of self.old out.old)
+            (HearsAll mark link (lines_of lines.items) (state_of self.old out.old)
             (state_of self.new out.new)) }
         ensures connected { OnOk result (IsStillConnected self.old.server out.old.outs
             self.new.server out.new.outs) }
     {
         let mut rest = lines.into_iter();
         while let Some(line) = rest.next() {
-            self.hear_one(link, line, out)?;
+            self.hear_one(mark, link, line, out)?;
         }
         Ok(())
     }
 
     /// A line of a piece has come. Where the link was closed before it, it is left out.
-    fn hear_one(&mut self, link: u64, line: Line, out: &mut Batch) -> Result<(), AllocError>
-        ensures heard { OnOk result
-            (HearsOne link line.items (state_of self.old out.old) (state_of self.new out.new)) }
+    fn hear_one(
+        &mut self,
+        mark: Option<Mark>,
+        link: u64,
+        line: Line,
+        out: &mut Batch,
+    ) -> Result<(), AllocError>
+        ensures heard { OnOk result (HearsOne mark link line.items (state_of self.old out.old)
+            (state_of self.new out.new)) }
         ensures connected { OnOk result (IsStillConnected self.old.server out.old.outs
             self.new.server out.new.outs) }
     {
         let is_held = is_held(&self.server, link, line.as_slice());
-        match give_at(&mut self.ends, link, &line, is_held) {
-            Some(Given::AsItCame) => self.give(link, line, out),
-            Some(Given::Changed(text)) => self.give(link, line_of(&text), out),
-            Some(Given::Kills(nick, other)) => self.give_kills(link, &nick, other.as_ref(), out),
-            Some(Given::LeftOut) => Ok(()),
-            None => Ok(()),
+        let peer = peer_of(&self.server, link);
+        match give_at(&mut self.ends, link, line.as_slice(), peer, is_held)? {
+            Given::AsItCame => self.do_line(mark, link, line, out),
+            Given::Changed(text) => self.do_line(mark, link, line_of(&text), out),
+            Given::LeftOut => Ok(()),
+            Given::Kills(nick, other) => self.give_kills(link, &nick, other.as_ref(), out),
+            Given::Brings(nick, channel) => self.bring(link, nick, &channel, out),
+            Given::Sets(text) => self.set(link, line_of(&text), out),
         }
+    }
+
+    /// The server does what a line says: one that is marked is set, another is given.
+    fn do_line(
+        &mut self,
+        mark: Option<Mark>,
+        link: u64,
+        line: Line,
+        out: &mut Batch,
+    ) -> Result<(), AllocError>
+        ensures heard { OnOk result
+            (Does mark link line.items (state_of self.old out.old) (state_of self.new out.new)) }
+        ensures connected { OnOk result (IsStillConnected self.old.server out.old.outs
+            self.new.server out.new.outs) }
+    {
+        match mark {
+            Some(Mark::Set) => self.set(link, line, out),
+            None => self.give(link, line, out),
+        }
+    }
+
+    /// The server is told to set what a line says of the server at the other end.
+    fn set(&mut self, link: u64, line: Line, out: &mut Batch) -> Result<(), AllocError>
+        ensures heard { OnOk result
+            (Sets link line.items (state_of self.old out.old) (state_of self.new out.new)) }
+        ensures connected { OnOk result (IsStillConnected self.old.server out.old.outs
+            self.new.server out.new.outs) }
+    {
+        irc_server::laws::who_is_connected_behind();
+        self.held.clear();
+        match self.server.set(link, &line, &mut self.held) {
+            Ok(()) => {
+                let cause = Cause {
+                    arrival: Some(link),
+                    mark: Some(Mark::Set),
+                };
+                put_all(&mut self.ends, cause, &mut self.held, out)
+            }
+            Err(ServerFault::Memory | ServerFault::Failed) => Err(AllocError),
+            Err(_) => Ok(()),
+        }
+    }
+
+    /// A user comes to a channel as an operator, as the server at the other end tells it.
+    fn bring(
+        &mut self,
+        link: u64,
+        nick: Nick,
+        channel: &ChannelName,
+        out: &mut Batch,
+    ) -> Result<(), AllocError>
+        ensures heard { OnOk result (BringsOne link nick channel.now
+            (state_of self.old out.old) (state_of self.new out.new)) }
+        ensures connected { OnOk result (IsStillConnected self.old.server out.old.outs
+            self.new.server out.new.outs) }
+    {
+        let Some(peer) = self.far(link) else {
+            return Ok(());
+        };
+        let line = line_of(&njoin_text(peer, channel, &[operator(nick)]));
+        self.give(link, line, out)
     }
 
     /// The server is given a line.
@@ -214,10 +290,7 @@ impl Layer {
     fn far(&self, link: u64) -> Option<&ServerName>
         ensures { option_copied result ≡ far_of self.now.server link }
     {
-        match self.server.routes() {
-            Some(routes) => routes.token_in(link, ITS_OWN),
-            None => None,
-        }
+        far_at(&self.server, link)
     }
 
     /// Two users of one nickname are killed, or one.
@@ -303,19 +376,55 @@ fn hear_at(ends: &mut Ends, link: u64, line: Line) -> Result<Heard, AllocError>
     }
 }
 
-/// What the server is given for a line, if the link has an end; `is_held` is whether somebody who
-/// is not behind the link has the nickname that the line brings.
-fn give_at(ends: &mut Ends, link: u64, line: &Line, is_held: bool) -> Option<Given>
-    ensures given { result ≡ option_map
-        (λ (end : LinksEnd). given end.log is_held line.now.items) (end_at ends.old link) }
-    ensures ends { end_at ends.new
-        ≡ change_end link (with_log_after line.now.items) (end_at ends.old) }
-    ensures nowhere { IfNone result (end_at ends.old link ≡ None) }
-    ensures stays { IfNone result (end_at ends.new ≡ end_at ends.old) }
+/// What the server is given for a line; nothing where the link has no end.
+fn give_at(
+    ends: &mut Ends,
+    link: u64,
+    line: &[u8],
+    peer: &[u8],
+    is_held: bool,
+) -> Result<Given, AllocError>
+    ensures given { IfOk result (λ given. given
+        ≡ given_at (end_at ends.old link) peer.now is_held line.now) }
+    ensures ends { OnOk result (end_at ends.new
+        ≡ change_end link (with_log_after line.now) (end_at ends.old)) }
 {
     match ends.get_mut(&link) {
-        Some(end) => Some(end.give(line.as_slice(), is_held)),
+        Some(end) => end.give(line, peer, is_held),
+        None => Ok(Given::LeftOut),
+    }
+}
+
+/// The name of the server at the other end of a link; no bytes where it is not known.
+fn peer_of(server: &Server, link: u64) -> &[u8]
+    ensures { result.now ≡ peer_of server.now link }
+{
+    match far_at(server, link) {
+        Some(name) => name.as_bytes(),
+        None => &[],
+    }
+}
+
+/// The server that is known at the other end of a link.
+fn far_at(server: &Server, link: u64) -> Option<&ServerName>
+    ensures { option_copied result ≡ far_of server.now link }
+{
+    match server.routes() {
+        Some(routes) => routes.token_in(link, ITS_OWN),
         None => None,
+    }
+}
+
+/// A member that comes as an operator.
+fn operator(nick: Nick) -> NewMember
+    ensures { told_member result ≡ (nick, record { op = true; voice = false }) }
+{
+    NewMember {
+        nick,
+        flags: Flags {
+            op: true,
+            voice: false,
+        },
     }
 }
 

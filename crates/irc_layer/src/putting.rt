@@ -9,7 +9,7 @@ ghost use Rattle.irc_layer.specs.Putting.{line_put, next_on, one_put, piece_line
 ghost use Rattle.irc_layer.specs.Putting.{with_next};
 ghost use Rattle.irc_layer.specs.Loops.Rests.{rest_of, IsAtHand};
 
-use crate::end::{End, PieceOn, body, is_squit};
+use crate::end::{Cause, End, PieceOn, body, is_squit};
 use irc_batch::{Batch, Out};
 use irc_pieces::MOST_LINES;
 use std::alloc::{AllocError, Global};
@@ -18,43 +18,42 @@ use std::collections::BTreeMap;
 /// The ends of links, by their numbers.
 pub(crate) type Ends = BTreeMap<u64, End, Global>;
 
-/// Puts out all that a server has put out; `arrival` is the link by which the line came that it
-/// has handled. Where no link is there nothing is looked at or copied.
+/// Puts out all that a server has put out. Where no link is there nothing is looked at or copied.
 ///
 /// # Errors
 /// Where memory runs out.
 pub(crate) fn put_all(
     ends: &mut Ends,
-    arrival: Option<u64>,
+    cause: Cause,
     held: &mut Batch,
     out: &mut Batch,
 ) -> Result<(), AllocError>
     ensures outs { OnOk result
-        (out.new.outs ≡ out.old.outs ++ all_put arrival held.old.outs (end_at ends.old)) }
+        (out.new.outs ≡ out.old.outs ++ all_put cause held.old.outs (end_at ends.old)) }
     ensures ends { OnOk result
-        (end_at ends.new ≡ ends_behind_all arrival held.old.outs (end_at ends.old)) }
+        (end_at ends.new ≡ ends_behind_all cause held.old.outs (end_at ends.old)) }
 {
     if ends.is_empty() {
         return out.append(held);
     }
-    put_each(ends, arrival, held, out)
+    put_each(ends, cause, held, out)
 }
 
 /// Puts out one thing after another.
 fn put_each(
     ends: &mut Ends,
-    arrival: Option<u64>,
+    cause: Cause,
     held: &Batch,
     out: &mut Batch,
 ) -> Result<(), AllocError>
     ensures outs { OnOk result
-        (out.new.outs ≡ out.old.outs ++ all_put arrival held.now.outs (end_at ends.old)) }
+        (out.new.outs ≡ out.old.outs ++ all_put cause held.now.outs (end_at ends.old)) }
     ensures ends { OnOk result
-        (end_at ends.new ≡ ends_behind_all arrival held.now.outs (end_at ends.old)) }
+        (end_at ends.new ≡ ends_behind_all cause held.now.outs (end_at ends.old)) }
 {
     let mut at_hand = None;
     for place in 0..held.len() {
-        at_hand = put_at(ends, arrival, Rest { held, place }, at_hand, out)?;
+        at_hand = put_at(ends, cause, Rest { held, place }, at_hand, out)?;
     }
     Ok(())
 }
@@ -63,7 +62,7 @@ fn put_each(
 /// there is one; so is what is answered. A line that goes to many clients lies there once.
 fn put_at<'a>(
     ends: &mut Ends,
-    arrival: Option<u64>,
+    cause: Cause,
     at: Rest<'a>,
     at_hand: Option<&[u8]>,
     out: &mut Batch,
@@ -71,11 +70,11 @@ fn put_at<'a>(
     requires there { at.place < length at.held.now.outs }
     requires hand { IsAtHand (option_copied at_hand) out.old.held }
     ensures outs { OnOk result (out.new.outs
-        ++ all_put arrival (drop (at.entry.place + 1) at.entry.held.now.outs) (end_at ends.new)
-        ≡ out.old.outs ++ all_put arrival (rest_of at.entry) (end_at ends.old)) }
+        ++ all_put cause (drop (at.entry.place + 1) at.entry.held.now.outs) (end_at ends.new)
+        ≡ out.old.outs ++ all_put cause (rest_of at.entry) (end_at ends.old)) }
     ensures ends { OnOk result
-        (ends_behind_all arrival (drop (at.entry.place + 1) at.entry.held.now.outs)
-        (end_at ends.new) ≡ ends_behind_all arrival (rest_of at.entry) (end_at ends.old)) }
+        (ends_behind_all cause (drop (at.entry.place + 1) at.entry.held.now.outs)
+        (end_at ends.new) ≡ ends_behind_all cause (rest_of at.entry) (end_at ends.old)) }
     ensures hand { IfOk result (λ line. IsAtHand (option_copied line) out.new.held) }
 {
     let behind = place_behind(at.held, at.place);
@@ -89,7 +88,7 @@ fn put_at<'a>(
                 held: at.held,
                 place: behind,
             };
-            put_one(ends, arrival, sent, rest, out)?;
+            put_one(ends, cause, sent, rest, out)?;
             Ok(None)
         }
         None => Ok(None),
@@ -127,24 +126,24 @@ struct Rest<'a> {
 /// Puts out one thing, behind which this is put out.
 fn put_one(
     ends: &mut Ends,
-    arrival: Option<u64>,
+    cause: Cause,
     sent: Out<'_>,
     rest: Rest<'_>,
     out: &mut Batch,
 ) -> Result<(), AllocError>
     requires fits { IsText (sent_of sent) }
     ensures outs { OnOk result (out.new.outs
-        ≡ out.old.outs ++ one_put arrival (sent_of sent.entry) (rest_of rest.entry)
+        ≡ out.old.outs ++ one_put cause (sent_of sent.entry) (rest_of rest.entry)
         (end_at ends.old)) }
     ensures ends { OnOk result (end_at ends.new
-        ≡ ends_behind arrival (sent_of sent.entry) (rest_of rest.entry) (end_at ends.old)) }
+        ≡ ends_behind cause (sent_of sent.entry) (rest_of rest.entry) (end_at ends.old)) }
 {
     match sent {
         Out::Line(conn, line) => out.put(conn, line),
         Out::Close(conn) => out.close(conn),
         Out::LinkLine(link, line) => {
             let lines = piece_lines(link, line, rest);
-            put_line(ends, arrival, PieceOn { link, lines }, line, out)
+            put_line(ends, cause, PieceOn { link, lines }, line, out)
         }
         Out::LinkClose(link, reason) => {
             end(ends, link);
@@ -156,19 +155,19 @@ fn put_one(
 /// Puts out a line on a link.
 fn put_line(
     ends: &mut Ends,
-    arrival: Option<u64>,
+    cause: Cause,
     to: PieceOn,
     line: &[u8],
     out: &mut Batch,
 ) -> Result<(), AllocError>
     requires fits { length line.now ≤ max_text }
     ensures outs { OnOk result (out.new.outs ≡ out.old.outs
-        ++ line_put arrival to.link to.lines line.now (end_at ends.old to.link)) }
+        ++ line_put cause to.link to.lines line.now (end_at ends.old to.link)) }
     ensures ends { OnOk result (end_at ends.new
-        ≡ change_end to.link (behind_line arrival to.link to.lines line.now) (end_at ends.old)) }
+        ≡ change_end to.link (behind_line cause to.link to.lines line.now) (end_at ends.old)) }
 {
     match ends.get_mut(&to.link) {
-        Some(end) => end.put_line(arrival, to, line, out),
+        Some(end) => end.put_line(cause, to, line, out),
         None => out.put_on(to.link, line),
     }
 }

@@ -9,7 +9,7 @@ use Rattle.irc_layer.proofs.putting.put_at.Goals as goal
 pub returns-in_ok-put_to-in-Some-Line-clause-outs :
     goal.returns-in_ok-put_to-in-Some-Line-clause-outs
 returns-in_ok-put_to-in-Some-Line-clause-outs c =
-    outs_moved_on c.args.arrival c.args.at.held.now.outs c.args.at.place
+    outs_moved_on c.args.cause c.args.at.held.now.outs c.args.at.place
     (line_to c.in-Some-Line.conn c.in-Some-Line.line.now)
     (end_at c.args.ends.now) (end_at c.args.ends.now)
     (sym c.get.ensures.there ∙ ap (option_map sent_of) c.in-Some-Line.is
@@ -19,7 +19,7 @@ returns-in_ok-put_to-in-Some-Line-clause-outs c =
 pub returns-in_ok-put_to-in-Some-Line-clause-ends :
     goal.returns-in_ok-put_to-in-Some-Line-clause-ends
 returns-in_ok-put_to-in-Some-Line-clause-ends c =
-    ends_moved_on c.args.arrival c.args.at.held.now.outs c.args.at.place
+    ends_moved_on c.args.cause c.args.at.held.now.outs c.args.at.place
     (line_to c.in-Some-Line.conn c.in-Some-Line.line.now)
     (end_at c.args.ends.now) (end_at c.args.ends.now)
     (sym c.get.ensures.there ∙ ap (option_map sent_of) c.in-Some-Line.is
@@ -28,18 +28,18 @@ returns-in_ok-put_to-in-Some-Line-clause-ends c =
 pub returns-in_ok-put_one-in-Some : goal.returns-in_ok-put_one-in-Some
 returns-in_ok-put_one-in-Some c =
     let ends_are = subst (λ n. end_at c.put_one.new.ends
-    ≡ ends_behind c.args.arrival (sent_of c.in-Some.sent) (drop n c.args.at.held.now.outs)
+    ≡ ends_behind c.args.cause (sent_of c.in-Some.sent) (drop n c.args.at.held.now.outs)
     (end_at c.args.ends.now)) c.place_behind-behind.ensures c.in_ok-put_one-in-Some.ensures.ends in
     let there = sym c.get.ensures.there ∙ ap (option_map sent_of) c.in-Some.is in
     record {
-      outs = outs_moved_on c.args.arrival c.args.at.held.now.outs c.args.at.place
+      outs = outs_moved_on c.args.cause c.args.at.held.now.outs c.args.at.place
           (sent_of c.in-Some.sent) (end_at c.args.ends.now) (end_at c.put_one.new.ends) there
           ends_are c.put_one.new.out.outs c.args.out.now.outs
           (subst (λ n. c.put_one.new.out.outs ≡ c.args.out.now.outs
-          ++ one_put c.args.arrival (sent_of c.in-Some.sent) (drop n c.args.at.held.now.outs)
+          ++ one_put c.args.cause (sent_of c.in-Some.sent) (drop n c.args.at.held.now.outs)
           (end_at c.args.ends.now)) c.place_behind-behind.ensures
           c.in_ok-put_one-in-Some.ensures.outs);
-      ends = ends_moved_on c.args.arrival c.args.at.held.now.outs c.args.at.place
+      ends = ends_moved_on c.args.cause c.args.at.held.now.outs c.args.at.place
           (sent_of c.in-Some.sent) (end_at c.args.ends.now) (end_at c.put_one.new.ends) there
           ends_are;
       hand = tt;

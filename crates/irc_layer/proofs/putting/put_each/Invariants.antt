@@ -8,9 +8,9 @@ use Rattle.irc_layer.proofs.putting.put_each.Given as goal
 -- what is put out so far, with what is still to be put out behind it, is all
 abbrev pub invariant-loop-place : goal.invariant-loop-place
 invariant-loop-place l = record {
-  outs : l.out.outs ++ all_put l.arrival (drop l.place l.held.outs) (end_at l.ends)
-      ≡ l.initial.out.outs ++ all_put l.arrival l.held.outs (end_at l.initial.ends);
-  ends : ends_behind_all l.arrival (drop l.place l.held.outs) (end_at l.ends)
-      ≡ ends_behind_all l.arrival l.held.outs (end_at l.initial.ends);
+  outs : l.out.outs ++ all_put l.cause (drop l.place l.held.outs) (end_at l.ends)
+      ≡ l.initial.out.outs ++ all_put l.cause l.held.outs (end_at l.initial.ends);
+  ends : ends_behind_all l.cause (drop l.place l.held.outs) (end_at l.ends)
+      ≡ ends_behind_all l.cause l.held.outs (end_at l.initial.ends);
   hand : IsAtHand (option_copied l.at_hand) l.out.held;
 }

@@ -1,7 +1,7 @@
 use Rattle.std.proofs.Common.{◌≡◌, drop}
 use Rattle.irc_crossing.specs.Letters.{letters_left}
 use Rattle.irc_crossing.specs.Loops.LettersLeft.{behind_begun, left_of}
-use Rattle.irc_crossing.proofs.modes.Log.pass_modes.Given as goal
+use Rattle.irc_crossing.proofs.log.Log.pass_modes.Given as goal
 
 -- what is left so far, and of the letters that are still to come, is what is left of all
 abbrev pub invariant-loop-change : goal.invariant-loop-change
