@@ -1,0 +1,23 @@
+-- What links owe: what was put out on each that its other end has not said to have read.
+use Rattle.std.specs.Prelude.{ℕ, ◌×◌, ◌&&◌, Bool, List, [], ◌∷◌, map, nat_eq, if◌then◌else◌}
+use Rattle.std.specs.BTreeMap.{BTreeMap}
+use Rattle.irc_engine.specs.declared.owing.Owed.{Owed}
+use Rattle.irc_layer.specs.declared.end.End.{End}
+use Rattle.irc_layer.specs.Uncounted.{uncounted_bytes}
+
+abbrev pub owed_on : ℕ × End → Owed
+owed_on (link, end) = record { link = link; bytes = uncounted_bytes end.uncounted }
+
+-- what each link owes, in order of their numbers
+abbrev pub all_owed : BTreeMap ℕ End → List Owed
+all_owed ends = map owed_on ends.entries
+
+abbrev pub is_as_told : Owed → Owed → Bool
+is_as_told was now = nat_eq was.link now.link && nat_eq was.bytes now.bytes
+
+-- what is new of that: all that does not stand at the same place in what was told
+abbrev pub news_of : (told all : List Owed) → List Owed
+news_of told [] = []
+news_of [] (now ∷ all) = now ∷ news_of [] all
+news_of (was ∷ told) (now ∷ all) =
+    if is_as_told was now then news_of told all else now ∷ news_of told all
