@@ -10,6 +10,7 @@ ghost use Rattle.irc_layer.specs.Putting.{behind_line, behind_piece, body, count
 ghost use Rattle.irc_layer.specs.Putting.{count_out, is_echo, is_kill_read, is_squit, line_out};
 ghost use Rattle.irc_layer.specs.Putting.{piece_out, with_begun, with_count_out, with_room};
 
+use crate::uncounted::Uncounted;
 use irc_batch::Batch;
 use irc_crossing::{Given, Log, change_told};
 use irc_line::{Line, parse};
@@ -31,6 +32,8 @@ pub(crate) struct End {
     pub left: u64,
     /// What it has put out, and the other end had not read when it wrote last.
     pub log: Log,
+    /// The bytes of that.
+    pub uncounted: Uncounted,
 }
 
 /// On which link a line goes, and how many lines a piece has that begins with it.
@@ -54,6 +57,7 @@ impl End {
             link,
             left: 0,
             log: Log::new(alloc),
+            uncounted: Uncounted::new(alloc),
         }
     }
 
@@ -67,6 +71,7 @@ impl End {
     {
         let heard = self.link.hear(line)?;
         self.log.count(self.link.taken());
+        self.uncounted.keep_last(self.link.unread());
         Ok(heard)
     }
 
@@ -123,6 +128,7 @@ impl End {
     {
         self.begin(to, out)?;
         self.left = self.left.saturating_sub(1);
+        self.uncounted.add(line.len());
         self.make_room();
         self.log.put_out(self.link.sent(), change_told(body(line)))?;
         out.put_on(to.link, line)
@@ -147,6 +153,7 @@ impl End {
             return Ok(());
         }
         self.left = to.lines;
+        self.uncounted.begin()?;
         let count = self.link.put_out_piece(to.lines, None);
         put_count(to.link, count, out)
     }

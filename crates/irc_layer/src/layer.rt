@@ -17,11 +17,12 @@ ghost use Rattle.irc_layer.specs.declared.end.End.{End as LinksEnd};
 
 use crate::end::{End, body};
 use crate::holding::is_held;
+use crate::owing::Owing;
 use crate::putting::{Ends, begin, end, put_all};
 use irc_batch::{Batch, CloseReason};
 use irc_burst_lines::kill_text;
 use irc_crossing::Given;
-use irc_engine::Machine;
+use irc_engine::{Machine, Owed};
 use irc_line::{Line, Text};
 use irc_moments::Moment;
 use irc_names::{Nick, ServerName, copied};
@@ -43,6 +44,7 @@ pub struct Layer {
     plain: Vec<ServerName, Global>,
     /// What the server has put out by the event at hand.
     held: Batch,
+    owing: Owing,
     alloc: Global,
 }
 
@@ -57,6 +59,7 @@ impl Layer {
             ends: BTreeMap::new(alloc),
             plain,
             held: Batch::new(alloc),
+            owing: Owing::new(alloc),
             alloc,
         }
     }
@@ -100,6 +103,21 @@ impl Layer {
             Ok(()) => Ok(true),
             Err(ServerFault::Memory | ServerFault::Failed) => Err(AllocError),
             Err(_) => Ok(false),
+        }
+    }
+
+    /// Handles an event.
+    fn handle_event(&mut self, event: &Event, out: &mut Batch) -> Result<(), ServerFault>
+        ensures handled { Handles (state_of self.old out.old) event.now
+            (state_of self.new out.new) result }
+        ensures connected { OnOk result (IsConnectedBy self.old.server event.now out.old.outs
+            self.new.server out.new.outs) }
+        ensures refused { IfErr result (IsRefusal self.old.server event.now) }
+    {
+        if is_heard(&self.ends, event) {
+            self.hear_event(event, out)
+        } else {
+            self.pass(None, event, out)
         }
     }
 
@@ -359,11 +377,10 @@ impl Machine for Layer {
     ghost dues = { never_due };
 
     fn handle(&mut self, event: &Event, out: &mut Batch) -> Result<(), ServerFault> {
-        if is_heard(&self.ends, event) {
-            self.hear_event(event, out)
-        } else {
-            self.pass(None, event, out)
-        }
+        self.owing.clear();
+        self.handle_event(event, out)?;
+        self.owing.note(&self.ends)?;
+        Ok(())
     }
 
     fn due(&mut self, _moment: Moment, _out: &mut Batch) -> Result<(), ServerFault> {
@@ -372,5 +389,9 @@ impl Machine for Layer {
 
     fn server(&self) -> &Server {
         &self.server
+    }
+
+    fn owed(&self) -> &[Owed] {
+        self.owing.news()
     }
 }
