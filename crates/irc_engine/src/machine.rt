@@ -54,8 +54,8 @@ pub trait Machine {
     fn owed(&self) -> &[Owed];
 }
 
-/// A server is one of itself, of which nothing is ever due. By its own protocol nobody says what was
-/// read.
+/// A server is one of itself, of which nothing is ever due. Nothing in its protocol says what the
+/// other end of a link has read.
 impl Machine for Server {
     ghost use Rattle.irc_engine.specs.Machines.{itself, never_due};
     ghost use Rattle.irc_server.specs.ReadEvents.{IsHandled};

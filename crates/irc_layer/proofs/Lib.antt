@@ -4,4 +4,5 @@ pub mod Following
 pub mod Hearing
 pub mod Kept
 pub mod Numbers
+pub mod Noted
 pub mod Passing

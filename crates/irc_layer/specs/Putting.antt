@@ -110,7 +110,7 @@ piece_out link lines line end = count_before link lines end ++ line_on link line
 abbrev pub with_room : List Entry → List Entry
 with_room log = if nat_le 1048576 (length log) then [] else log
 
--- a line of it is in the log from now on, by the number of its piece, and its bytes are to be counted
+-- a line of it is in the log from now on, by the number of its piece, and its bytes are uncounted
 abbrev pub with_logged : List ℕ → End → End
 with_logged line end = record end {
   left = end.left - 1;

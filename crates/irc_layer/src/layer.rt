@@ -11,7 +11,7 @@ ghost use Rattle.irc_layer.specs.Ends.{change_end, end_at, end_hearing, ends_fol
 ghost use Rattle.irc_layer.specs.Ends.{met_if, with_log_after};
 ghost use Rattle.irc_layer.specs.Layers.{state_of, Gives, GivesKill, GivesKills, HearsAll, HearsIf};
 ghost use Rattle.irc_layer.specs.Layers.{HearsOne, IsAround, IsRefusedBy, Passes, PassesOrNot};
-ghost use Rattle.irc_layer.specs.Layers.{is_heard, Handles, IsConnectedIf, Shuts};
+ghost use Rattle.irc_layer.specs.Layers.{is_heard, layer_view, Handles, IsConnectedIf, Shuts};
 ghost use Rattle.irc_layer.specs.Putting.{body, count_at, with_count_out};
 ghost use Rattle.irc_layer.specs.declared.end.End.{End as LinksEnd};
 
@@ -119,6 +119,15 @@ impl Layer {
         } else {
             self.pass(None, event, out)
         }
+    }
+
+    /// What links owe behind an event.
+    fn note_owed(&mut self) -> Result<(), ServerFault>
+        ensures same { layer_view self.new ≡ layer_view self.old }
+        ensures memory { IfErr result (λ fault. is_out_of_memory fault ≡ true) }
+    {
+        self.owing.note(&self.ends)?;
+        Ok(())
     }
 
     /// A line of a link that has an end has come.
@@ -378,9 +387,10 @@ impl Machine for Layer {
 
     fn handle(&mut self, event: &Event, out: &mut Batch) -> Result<(), ServerFault> {
         self.owing.clear();
-        self.handle_event(event, out)?;
-        self.owing.note(&self.ends)?;
-        Ok(())
+        match self.handle_event(event, out) {
+            Ok(()) => self.note_owed(),
+            Err(fault) => Err(fault),
+        }
     }
 
     fn due(&mut self, _moment: Moment, _out: &mut Batch) -> Result<(), ServerFault> {

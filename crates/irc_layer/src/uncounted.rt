@@ -1,5 +1,5 @@
 //! What an end of a link has put out in pieces that the other end has not counted.
-ghost use Rattle.std.specs.Prelude.{◌≡◌, OnOk};
+ghost use Rattle.std.specs.Prelude.{◌≡◌, drop, OnOk};
 ghost use Rattle.irc_layer.specs.Uncounted.{last_pieces, nothing_uncounted, piece_begun};
 ghost use Rattle.irc_layer.specs.Uncounted.{uncounted_bytes, with_bytes};
 
