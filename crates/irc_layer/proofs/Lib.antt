@@ -1,4 +1,5 @@
 pub mod Connecting
+pub mod Counting
 pub mod Examples
 pub mod Following
 pub mod Hearing

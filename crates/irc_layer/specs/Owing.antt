@@ -1,5 +1,5 @@
 -- What links owe: what was put out on each that its other end has not said to have read.
-use Rattle.std.specs.Prelude.{ℕ, ◌×◌, ◌&&◌, Bool, false, List, [], ◌∷◌, ◌++◌, drop, map}
+use Rattle.std.specs.Prelude.{ℕ, ◌&&◌, Bool, false, List, [], ◌∷◌, ◌++◌, drop, map}
 use Rattle.std.specs.Prelude.{nat_eq, if◌then◌else◌}
 use Rattle.std.specs.BTreeMap.{BTreeMap}
 use Rattle.irc_engine.specs.declared.owing.Owed.{Owed}

@@ -1,7 +1,7 @@
 -- Those who talk to the server, by their numbers, the queue of those that are to be reported, and
 -- who is held back.
-use Rattle.std.specs.Prelude.{◌≡◌, ◌≤◌, ◌⊎◌, ℕ, Bool, true, false, not, ◌&&◌, ◌||◌, ◌-◌, nat_eq, nat_lt}
-use Rattle.std.specs.Prelude.{if◌then◌else◌, Option, Some, None, is_none, List, [], ◌∷◌}
+use Rattle.std.specs.Prelude.{◌≡◌, ◌≤◌, ◌⊎◌, ℕ, Bool, true, false, not, ◌&&◌, ◌||◌, ◌-◌, nat_eq}
+use Rattle.std.specs.Prelude.{nat_lt, if◌then◌else◌, Option, Some, None, is_none, List, [], ◌∷◌}
 use Rattle.std.specs.Prelude.{length}
 use Rattle.std.specs.List.{slice_get, swap_remove}
 use Rattle.std.specs.Option.{option_or}
