@@ -440,7 +440,8 @@ impl<W: Wire, M: Machine> Core<W, M> {
         self.handle(&kind.end_event(conn))
     }
 
-    /// Passes an event on to the server, which does not refuse it, and does what it puts out.
+    /// Passes an event on to the server, which does not refuse it, and does what it puts out; the
+    /// wire is told what links owe by it.
     fn handle(&mut self, event: &Event) -> Result<(), AllocError>
         requires { IsToHearIn M.server_of event.now self.old }
         ensures at_one { OnOk result (IsAtOneIn M.server_of self.new) }
@@ -455,7 +456,9 @@ impl<W: Wire, M: Machine> Core<W, M> {
         match self.machine.handle(event, &mut self.out) {
             Ok(()) => {
                 note(&mut self.journal, event, self.machine.server())?;
-                self.connections.dispatch(&self.out, &mut self.journal)
+                let owed = self.machine.owed();
+                self.connections
+                    .dispatch_owing(owed, &self.out, &mut self.journal)
             }
             Err(fault) => Err(want_of_memory(fault)),
         }

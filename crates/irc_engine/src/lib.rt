@@ -11,7 +11,9 @@ mod lent_outbox;
 mod machine;
 mod noting;
 mod outbox_pool;
+mod owing;
 mod telling;
 
 pub use engine::{Engine, EngineFault};
 pub use machine::Machine;
+pub use owing::Owed;

@@ -1,7 +1,9 @@
 pub mod Connecting
+pub mod Counting
 pub mod Examples
 pub mod Following
 pub mod Hearing
 pub mod Kept
 pub mod Numbers
+pub mod Noted
 pub mod Passing

@@ -12,17 +12,18 @@ ghost use Rattle.irc_burst_lines.specs.Loops.Telling.{told_member};
 ghost use Rattle.irc_layer.specs.Layers.{given_at, peer_of, state_of, BringsOne, Does, Gives};
 ghost use Rattle.irc_layer.specs.Layers.{GivesKill, GivesKills, HearsAll, HearsIf, Sets};
 ghost use Rattle.irc_layer.specs.Layers.{HearsOne, IsAround, IsRefusedBy, Passes, PassesOrNot};
-ghost use Rattle.irc_layer.specs.Layers.{is_heard, Handles, IsConnectedIf, Shuts};
+ghost use Rattle.irc_layer.specs.Layers.{is_heard, layer_view, Handles, IsConnectedIf, Shuts};
 ghost use Rattle.irc_layer.specs.Putting.{body, count_at, with_count_out};
 
 use crate::end::{Cause, End, body};
 use crate::holding::is_held;
+use crate::owing::Owing;
 use crate::putting::{Ends, begin, end, put_all};
 use irc_batch::{Batch, CloseReason};
 use irc_burst_lines::{kill_text, njoin_text};
 use irc_channels::Flags;
 use irc_crossing::Given;
-use irc_engine::Machine;
+use irc_engine::{Machine, Owed};
 use irc_line::{Line, Text};
 use irc_link_reader::NewMember;
 use irc_moments::Moment;
@@ -45,6 +46,7 @@ pub struct Layer {
     plain: Vec<ServerName, Global>,
     /// What the server has put out by the event at hand.
     held: Batch,
+    owing: Owing,
     alloc: Global,
 }
 
@@ -59,6 +61,7 @@ impl Layer {
             ends: BTreeMap::new(alloc),
             plain,
             held: Batch::new(alloc),
+            owing: Owing::new(alloc),
             alloc,
         }
     }
@@ -107,6 +110,30 @@ impl Layer {
             Err(ServerFault::Memory | ServerFault::Failed) => Err(AllocError),
             Err(_) => Ok(false),
         }
+    }
+
+    /// Handles an event.
+    fn handle_event(&mut self, event: &Event, out: &mut Batch) -> Result<(), ServerFault>
+        ensures handled { Handles (state_of self.old out.old) event.now
+            (state_of self.new out.new) result }
+        ensures connected { OnOk result (IsConnectedBy self.old.server event.now out.old.outs
+            self.new.server out.new.outs) }
+        ensures refused { IfErr result (IsRefusal self.old.server event.now) }
+    {
+        if is_heard(&self.ends, event) {
+            self.hear_event(event, out)
+        } else {
+            self.pass(None, event, out)
+        }
+    }
+
+    /// What links owe behind an event.
+    fn note_owed(&mut self) -> Result<(), ServerFault>
+        ensures same { layer_view self.new ≡ layer_view self.old }
+        ensures memory { IfErr result (λ fault. is_out_of_memory fault ≡ true) }
+    {
+        self.owing.note(&self.ends)?;
+        Ok(())
     }
 
     /// A line of a link that has an end has come.
@@ -468,10 +495,10 @@ impl Machine for Layer {
     ghost dues = { never_due };
 
     fn handle(&mut self, event: &Event, out: &mut Batch) -> Result<(), ServerFault> {
-        if is_heard(&self.ends, event) {
-            self.hear_event(event, out)
-        } else {
-            self.pass(None, event, out)
+        self.owing.clear();
+        match self.handle_event(event, out) {
+            Ok(()) => self.note_owed(),
+            Err(fault) => Err(fault),
         }
     }
 
@@ -481,5 +508,9 @@ impl Machine for Layer {
 
     fn server(&self) -> &Server {
         &self.server
+    }
+
+    fn owed(&self) -> &[Owed] {
+        self.owing.news()
     }
 }

@@ -125,7 +125,8 @@ pub trait Wire {
         ensures { Keeps is_after self.old self.new };
 
     /// So many bytes were put out on a link that its other end has not said to have read: a device
-    /// may slow others for them. It is no part of the account.
+    /// may slow others for them, and may fail at the link where they are too many. It is no part of
+    /// the account.
     fn owes(&mut self, link: u64, bytes: usize)
         ensures { Keeps is_after self.old self.new };
 

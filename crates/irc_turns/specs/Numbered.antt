@@ -1,7 +1,7 @@
 -- Those who talk to the server, by their numbers, the queue of those that are to be reported, and
 -- who is held back.
 use Rattle.std.specs.Prelude.{◌≡◌, ◌≤◌, ◌⊎◌, ℕ, Bool, true, false, not, ◌&&◌, ◌||◌, ◌-◌, nat_eq}
-use Rattle.std.specs.Prelude.{if◌then◌else◌, Option, Some, None, is_none, List, [], ◌∷◌}
+use Rattle.std.specs.Prelude.{nat_lt, if◌then◌else◌, Option, Some, None, is_none, List, [], ◌∷◌}
 use Rattle.std.specs.Prelude.{length}
 use Rattle.std.specs.List.{slice_get, swap_remove}
 use Rattle.std.specs.Option.{option_or}
@@ -238,15 +238,33 @@ link_named number talkers = link_named_if number talkers (talker_at talkers numb
 
 -- so much was put out on a link that its other end has not said to have read, and whether that is
 -- far too much is known from then on
-abbrev pub link_owes_if : ℕ → ℕ → NumberedTalkers → Option Talker → NumberedTalkers
-link_owes_if bytes number talkers None = talkers
-link_owes_if bytes number talkers (Some talker) = record talkers {
+abbrev pub owed_known_if : ℕ → ℕ → NumberedTalkers → Option Talker → NumberedTalkers
+owed_known_if bytes number talkers None = talkers
+owed_known_if bytes number talkers (Some talker) = record talkers {
   by_number = with_value talkers.by_number number (record talker { owed = bytes });
   full = queued_as (is_over_hard talkers.marks (record talker { owed = bytes })) number talkers.full;
 }
 
+abbrev pub owed_known : ℕ → ℕ → NumberedTalkers → NumberedTalkers
+owed_known bytes number talkers = owed_known_if bytes number talkers (talker_at talkers number)
+
+-- one is given up, unless it is gone, and reported, so that its read fails
+abbrev pub one_given_up_if : ℕ → NumberedTalkers → Option Talker → NumberedTalkers
+one_given_up_if number talkers None = talkers
+one_given_up_if number talkers (Some talker) = record talkers {
+  by_number = with_value talkers.by_number number (given_up talker);
+  queue = queued_behind number talkers.queue;
+}
+
+abbrev pub one_given_up : ℕ → NumberedTalkers → NumberedTalkers
+one_given_up number talkers = one_given_up_if number talkers (talker_at talkers number)
+
+-- .. and a link is given up where that is more than the most that may be
 abbrev pub link_owes : ℕ → ℕ → NumberedTalkers → NumberedTalkers
-link_owes bytes number talkers = link_owes_if bytes number talkers (talker_at talkers number)
+link_owes bytes number talkers =
+    if nat_lt talkers.marks.most_owed bytes
+    then one_given_up number (owed_known bytes number talkers)
+    else owed_known bytes number talkers
 
 -- the time of one is over: it is given up, unless it has named itself or is gone
 abbrev pub time_ended_if : TalkerMark → NumberedTalkers → Option Talker → NumberedTalkers

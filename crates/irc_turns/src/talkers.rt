@@ -12,7 +12,7 @@ ghost use Rattle.irc_turns.specs.Numbered.{talker_at, SameButQueue, SameLists, I
 ghost use Rattle.irc_turns.specs.Numbered.{tried_again, queue_told, has_come, queue_asked};
 ghost use Rattle.irc_turns.specs.Numbered.{put_off_at, queue_written, round_behind, asked_again};
 ghost use Rattle.irc_turns.specs.Numbered.{full_written, SameButQueueAndFull, link_named};
-ghost use Rattle.irc_turns.specs.Numbered.{link_owes};
+ghost use Rattle.irc_turns.specs.Numbered.{link_owes, owed_known, one_given_up};
 ghost use Rattle.irc_turns.specs.Numbered.{talker_mark, mark_of_one, turn_ended, time_ended};
 ghost use Rattle.irc_turns.specs.Numbered.{reason_for, grown_reason, full_reason, filled_reason};
 ghost use Rattle.irc_turns.specs.Numbered.{is_grown, is_filled, IsHeldFor, ReportsFirst, LetsGo};
@@ -487,9 +487,19 @@ impl Talkers {
         }
     }
 
-    /// So many bytes were put out on a link that its other end has not said to have read.
+    /// So many bytes were put out on a link that its other end has not said to have read. Where
+    /// that is more than may be, its next read fails, and it is reported.
     pub fn owe(&mut self, number: usize, bytes: usize)
         ensures { self.new ≡ link_owes bytes number self.old }
+    {
+        self.note_owed(number, bytes);
+        if bytes > self.marks.most_owed {
+            self.give_up(number);
+        }
+    }
+
+    fn note_owed(&mut self, number: usize, bytes: usize)
+        ensures { self.new ≡ owed_known bytes number self.old }
     {
         let Some(talker) = self.by_number.get_mut(number) else {
             return;
@@ -497,6 +507,15 @@ impl Talkers {
         talker.owe(bytes);
         let is_full = talker.is_over_hard(self.marks);
         self.set_full(number, is_full);
+    }
+
+    fn give_up(&mut self, number: usize)
+        ensures { self.new ≡ one_given_up number self.old }
+    {
+        if let Some(talker) = self.by_number.get_mut(number) {
+            talker.give_up();
+            self.queue_up(number);
+        }
     }
 
     /// What tells a talker from each other, also from one that gets its number later.
