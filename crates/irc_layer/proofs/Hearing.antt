@@ -6,42 +6,37 @@ use Rattle.irc_server.specs.declared.event.Event.{Event}
 use Rattle.irc_server.specs.declared.event.ServerFault.{ServerFault}
 use Rattle.irc_server.specs.declared.event.ServerFault.TheVariants.{Memory}
 use Rattle.irc_engine.specs.Machines.{is_out_of_memory}
-use Rattle.irc_layer.specs.declared.end.End.{End}
-use Rattle.irc_layer.specs.Layers.{is_heard, Handles, HearsAll, HearsFrom, HearsOne, IsRefusedBy}
+use Rattle.irc_pieces.specs.declared.count.Mark.{Mark}
+use Rattle.irc_layer.specs.Layers.{is_heard, Handles, HearsAll, HearsOne, IsRefusedBy}
 use Rattle.irc_layer.specs.Layers.{Passes, State}
 use Rattle.irc_layer.specs.Layers.Handles.{passes, refuses, wants_memory}
 use Rattle.irc_layer.specs.Layers.HearsAll.{all_heard, hears_more}
 
--- nothing is heard of a link that has no end
-pub heard_nowhere : (end : Option End) (link : ℕ) (line : List ℕ) (old new : State) → end ≡ None
-    → new ≡ old → HearsFrom end link line old new
-heard_nowhere end link line old new none stays =
-    subst (λ (e : Option End). HearsFrom e link line old new) (sym none) stays
-
 -- what was heard so far of a piece, and one line more
-pub record HeardTo (link : ℕ) (all rest : List (List ℕ)) (first now : State) : Type 0 where
-  pub completes : (last : State) → HearsAll link rest now last → HearsAll link all first last
+pub record HeardTo (mark : Option Mark) (link : ℕ) (all rest : List (List ℕ)) (first now : State) : Type 0 where
+  pub completes : (last : State) → HearsAll mark link rest now last
+      → HearsAll mark link all first last
 
-pub heard_none : (link : ℕ) (all rest : List (List ℕ)) (first : State) → rest ≡ all
-    → HeardTo link all rest first first
-heard_none link all rest first is = record {
+pub heard_none : (mark : Option Mark) (link : ℕ) (all rest : List (List ℕ)) (first : State)
+    → rest ≡ all → HeardTo mark link all rest first first
+heard_none mark link all rest first is = record {
   completes = λ last others.
-      subst (λ (lines : List (List ℕ)). HearsAll link lines first last) is others;
+      subst (λ (lines : List (List ℕ)). HearsAll mark link lines first last) is others;
 }
 
-pub heard_on : (link : ℕ) (all rest more : List (List ℕ)) (line : List ℕ)
-    (first now next : State) → rest ≡ line ∷ more → HearsOne link line now next
-    → HeardTo link all rest first now → HeardTo link all more first next
-heard_on link all rest more line first now next is one so_far = record {
+pub heard_on : (mark : Option Mark) (link : ℕ) (all rest more : List (List ℕ)) (line : List ℕ)
+    (first now next : State) → rest ≡ line ∷ more → HearsOne mark link line now next
+    → HeardTo mark link all rest first now → HeardTo mark link all more first next
+heard_on mark link all rest more line first now next is one so_far = record {
   completes = λ last others. so_far.completes last
-      (subst (λ (lines : List (List ℕ)). HearsAll link lines now last) (sym is)
+      (subst (λ (lines : List (List ℕ)). HearsAll mark link lines now last) (sym is)
       (hears_more one others));
 }
 
-pub heard_whole : (link : ℕ) (all rest : List (List ℕ)) (first now : State) → rest ≡ []
-    → HeardTo link all rest first now → HearsAll link all first now
-heard_whole link all rest first now none so_far = so_far.completes now
-    (subst (λ (lines : List (List ℕ)). HearsAll link lines now now) (sym none) all_heard)
+pub heard_whole : (mark : Option Mark) (link : ℕ) (all rest : List (List ℕ)) (first now : State)
+    → rest ≡ [] → HeardTo mark link all rest first now → HearsAll mark link all first now
+heard_whole mark link all rest first now none so_far = so_far.completes now
+    (subst (λ (lines : List (List ℕ)). HearsAll mark link lines now now) (sym none) all_heard)
 
 -- ---- an event
 

@@ -16,7 +16,7 @@ use Rattle.irc_server.specs.Served.{no_link}
 use Rattle.irc_engine.specs.Machines.{runs_out_now, IsConnectedBy, IsRefusal}
 use Rattle.irc_engine.specs.Machines.{IsStillConnected}
 use Rattle.irc_layer.specs.Ends.{ends_followed, Ends}
-use Rattle.irc_layer.specs.Layers.{closing, IsConnectedIf, Passes, PassesOrNot, State}
+use Rattle.irc_layer.specs.Layers.{by_event, closing, IsConnectedIf, Passes, PassesOrNot, State}
 use Rattle.irc_layer.specs.Putting.{all_put, ends_behind_all}
 use Rattle.irc_layer.proofs.Connecting.{connected_put, nobody_goes, still_by_line, still_shut}
 use Rattle.arrayvec.specs.ArrayVec.{ArrayVec}
@@ -27,23 +27,23 @@ module _ (arrival : Option ℕ) (event : Event) (old new : State) (held outs : L
     (followed : Ends) (none_held : held ≡ []) where
   pub passes_by : IsHandled old.layer.server event held (Ok tt) new.layer.server outs
       → followed ≡ ends_followed event old.layer.plain old.layer.ends
-      → new.layer.ends ≡ ends_behind_all arrival outs followed
-      → new.layer.plain ≡ old.layer.plain → new.outs ≡ old.outs ++ all_put arrival outs followed
+      → new.layer.ends ≡ ends_behind_all (by_event arrival) outs followed
+      → new.layer.plain ≡ old.layer.plain → new.outs ≡ old.outs ++ all_put (by_event arrival) outs followed
       → Passes arrival event old new
   passes_by handled follows ends plain put = record {
     outs = outs;
     is_handled = subst (λ (h : List Sent).
         IsHandled old.layer.server event h (Ok tt) new.layer.server outs) none_held handled;
-    ends_are = ends ∙ ap (ends_behind_all arrival outs) follows;
+    ends_are = ends ∙ ap (ends_behind_all (by_event arrival) outs) follows;
     plain_is = plain;
-    outs_are = put ∙ ap (λ (e : Ends). old.outs ++ all_put arrival outs e) follows;
+    outs_are = put ∙ ap (λ (e : Ends). old.outs ++ all_put (by_event arrival) outs e) follows;
   }
 
   pub connects_by : IsConnectedBy old.layer.server event held new.layer.server outs
-      → new.outs ≡ old.outs ++ all_put arrival outs followed
+      → new.outs ≡ old.outs ++ all_put (by_event arrival) outs followed
       → IsConnectedBy old.layer.server event old.outs new.layer.server new.outs
   connects_by connected put =
-      connected_put event arrival followed old.layer.server new.layer.server outs old.outs new.outs
+      connected_put event (by_event arrival) followed old.layer.server new.layer.server outs old.outs new.outs
       (subst (λ (h : List Sent). IsConnectedBy old.layer.server event h new.layer.server outs)
       none_held connected) put
 

@@ -1,5 +1,5 @@
-use Rattle.irc_layer.proofs.Examples.{count_is_in_front, kill_does_not_go_back}
-use Rattle.irc_layer.proofs.Examples.{lost_servers_are_one}
+use Rattle.irc_layer.proofs.Examples.{count_is_in_front, kick_is_unspoken, kill_does_not_go_back}
+use Rattle.irc_layer.proofs.Examples.{lost_servers_are_one, set_is_marked}
 use Rattle.irc_layer.proofs.laws.lines_put_out.Goals as goal
 
 pub returns-clause-count : goal.returns-clause-count
@@ -10,3 +10,9 @@ returns-clause-lost c = lost_servers_are_one
 
 pub returns-clause-echo : goal.returns-clause-echo
 returns-clause-echo c = kill_does_not_go_back
+
+pub returns-clause-set : goal.returns-clause-set
+returns-clause-set c = set_is_marked
+
+pub returns-clause-unspoken : goal.returns-clause-unspoken
+returns-clause-unspoken c = kick_is_unspoken

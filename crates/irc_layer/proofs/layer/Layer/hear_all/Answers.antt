@@ -10,7 +10,7 @@ use Rattle.irc_layer.proofs.layer.Layer.hear_all.Goals as goal
 
 pub loop-line-init : goal.loop-line-init
 loop-line-init c = record {
-  heard = heard_none c.args.link (lines_of c.args.lines.items)
+  heard = heard_none c.args.mark c.args.link (lines_of c.args.lines.items)
       (lines_of (into_iter_items c.into_iter-rest.result))
       (state_of c.args.self.now c.args.out.now) (ap lines_of c.into_iter-rest.ensures.rest);
   connected = nobody_goes c.args.self.now.server c.args.out.now.outs;
@@ -18,7 +18,7 @@ loop-line-init c = record {
 
 pub loop-line-preserved : goal.loop-line-preserved
 loop-line-preserved c = record {
-  heard = heard_on c.args.link (lines_of c.args.lines.items)
+  heard = heard_on c.args.mark c.args.link (lines_of c.args.lines.items)
       (lines_of (into_iter_items c.loop-line.rest)) (lines_of (into_iter_items c.next.new.self))
       c.in-Some.line.items (state_of c.args.self.now c.args.out.now)
       (state_of c.loop-line.self c.loop-line.out) (state_of c.hear_one.new.self c.hear_one.new.out)
@@ -31,7 +31,7 @@ loop-line-preserved c = record {
 
 pub returns-clause-heard : goal.returns-clause-heard
 returns-clause-heard c =
-    heard_whole c.args.link (lines_of c.args.lines.items)
+    heard_whole c.args.mark c.args.link (lines_of c.args.lines.items)
     (lines_of (into_iter_items c.loop-line.rest)) (state_of c.args.self.now c.args.out.now)
     (state_of c.loop-line.self c.loop-line.out)
     (ap lines_of (nil_from_length (into_iter_items c.loop-line.rest) (grind (arith, common_steps))))

@@ -8,7 +8,7 @@ use Rattle.irc_layer.proofs.layer.Layer.hear_all.Given as goal
 -- the lines so far are heard, and those that are left would be all
 abbrev pub invariant-loop-line : goal.invariant-loop-line
 invariant-loop-line l = record {
-  heard : HeardTo l.link (lines_of l.fn.lines.items) (lines_of (into_iter_items l.rest))
+  heard : HeardTo l.mark l.link (lines_of l.fn.lines.items) (lines_of (into_iter_items l.rest))
       (state_of l.initial.self l.initial.out) (state_of l.self l.out);
   connected : IsStillConnected l.initial.self.server l.initial.out.outs l.self.server l.out.outs;
 }
