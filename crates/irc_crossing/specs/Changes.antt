@@ -1,7 +1,7 @@
 -- What a line of a link changes of who has which nickname, of who is in which channel, and of what
 -- is set there (`Settings.antt`); and what becomes of a change that has crossed another one. Both
--- ends of a link have the same users; each does something, and then reads what the other did. Behind
--- its own change and what becomes of the other's, each has the same users again.
+-- ends of a link have the same users; each does something, and then reads what the other did.
+-- Behind its own change and what becomes of the other's, each has the same users again.
 --
 -- A user of a.net is al, one of b.net is bo; both write before they read.
 --   names are followed      a.net   :al NICK ally          b.net   :bo KICK #c al :out

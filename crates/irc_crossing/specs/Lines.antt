@@ -1,5 +1,5 @@
 -- What a line of a link changes (RFC 2813 section 4), and the nicknames in it.
-use Rattle.std.specs.Prelude.{ℕ, Bool, true, false, ◌&&◌, ◌||◌, Option, Some, None, List, [], ◌∷◌}
+use Rattle.std.specs.Prelude.{ℕ, Bool, ◌&&◌, ◌||◌, Option, Some, None, List, [], ◌∷◌}
 use Rattle.std.specs.Prelude.{codes, get_or, map, option_to_list, if◌then◌else◌}
 use Rattle.std.specs.Option.{option_and_then, option_map, option_map_or}
 use Rattle.irc_line.specs.Messages.{Parsed}
@@ -89,7 +89,8 @@ abbrev pub modes_in : List (List ℕ) → Option ChannelModes
 modes_in [] = None
 modes_in (channel ∷ words) =
     if is_channel channel
-    then option_map (λ changes. record { channel = channel; changes = changes }) (told_changes words)
+    then option_map (λ changes. record { channel = channel; changes = changes })
+    (told_changes words)
     else None
 
 abbrev pub channel_modes : Parsed → Option ChannelModes

@@ -1,5 +1,5 @@
 -- Letters of a MODE that are left, as they are put together.
-use Rattle.std.specs.Prelude.{Bool, true, false, ◌&&◌, Option, Some, None, List, [], ◌∷◌, ◌++◌}
+use Rattle.std.specs.Prelude.{Bool, false, ◌&&◌, Option, Some, List, [], ◌∷◌, ◌++◌}
 use Rattle.irc_modes.specs.declared.modes.ModeChange.{ModeChange}
 use Rattle.irc_crossing.specs.declared.change.Change.{Change}
 use Rattle.irc_crossing.specs.declared.change.Change.TheVariants.{Set}

@@ -1,4 +1,4 @@
-use Rattle.std.proofs.Common.{◌∙◌, Some, ap, sym}
+use Rattle.std.proofs.Common.{◌∙◌, ap, sym}
 use Rattle.std.specs.Option.{option_copied}
 use Rattle.irc_line.specs.MessageViews.{optional_now, parsed}
 use Rattle.irc_crossing.specs.Hearing.{modes_by, modes_from}
