@@ -11,8 +11,8 @@ The examples are of the end a.net, whose people are al and ann; bo and bea are a
 
 from dataclasses import replace
 
-from effects import (NOTHING, Come, Go, Join, Named, Out, Own, Rename, Set, Spoken, channel_of, done, in_order, is_flag, raised, rank,
-                     taken_by, value_at, with_names)
+from effects import (NOTHING, SPELLING, Come, Go, Join, Named, Out, Own, Rename, Set, Spoken, channel_of, done, in_order, is_flag, raised, rank,
+                     taken_by, with_names)
 
 
 def crossed(room, theirs, ours):
@@ -24,7 +24,7 @@ def crossed(room, theirs, ours):
     if isinstance(ours, (Go, Out)):
         return in_ended_channel(room, gone_dropped(theirs, ours), ours)
     if isinstance(ours, (Join, Set)) and isinstance(theirs, (Join, Set)) and theirs.channel == ours.channel:
-        return replace(theirs, values=tuple((place, value) for place, value in theirs.values if stays(room, theirs, ours, place)))
+        return replace(theirs, values=tuple((place, value) for place, value in theirs.values if stays(theirs, ours, place)))
     return theirs
 
 
@@ -104,24 +104,15 @@ def ends(room, ours, channel):
     return channel in room.channels and channel not in done(room, ours).channels
 
 
-def stays(room, theirs, ours, place):
-    """Of two values for one place the greater stays, and one that was set on both sides is set once. What is joined may always stay, where it
-    does nothing too: but not what had nothing to raise there, and would have here.
+def stays(theirs, ours, place):
+    """Of two values for one place the greater stays, and one that was set on both sides is set once. A spelling that comes with somebody stays:
+    the greater is taken.
 
         a.net writes    :al TOPIC #c :one       b.net writes    :bo TOPIC #c :two
         a.net is given  :bo TOPIC #c :two       b.net is given  nothing
     """
-    held, value, other = value_at(room, theirs.channel, place), dict(theirs.values)[place], dict(ours.values).get(place, NOTHING)
-    if other is NOTHING or is_idle(ours, held, other):
-        return True
-    if is_idle(theirs, held, value):
-        return isinstance(theirs, Join) and not is_greater(value, other)
-    return isinstance(theirs, Join) or is_greater(value, other)
-
-
-def is_idle(effect, held, value):
-    """Whether an effect changes nothing of a place that has this value."""
-    return value == held if isinstance(effect, Set) else rank(value) <= rank(held)
+    value, other = dict(theirs.values)[place], dict(ours.values).get(place, NOTHING)
+    return other is NOTHING or is_greater(value, other) or isinstance(theirs, Join) and place == SPELLING
 
 
 def is_greater(value, other):

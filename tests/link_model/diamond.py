@@ -2,7 +2,7 @@
 
 from crossing import crossed, related, through
 from effects import (EMPTY, HIDDEN, KEY, LIMIT, NOTHING, OPERATOR, SPELLING, TOPIC, VOICE, Come, Go, Join, Named, Out, Own, Person,
-                     Rename, Set, Spoken, all_done, ban, done, flag, in_order)
+                     Rename, Set, Spoken, all_done, ban, done, flag, in_order, rank, value_at)
 from lost import lost, taken_back
 
 SIDES = [b"a.net", b"b.net"]
@@ -27,15 +27,20 @@ def could_do(room, side):
 
 
 def joins(room, own, name):
-    """Who may come to a channel, one or two, with a spelling; and values that come alone, where it is there."""
+    """Who may come to a channel, one or two, with a spelling; and values that come alone, where it is there, and raise something: what raises
+    nothing can stay over what was set lower beside it, since what a place had before is not kept."""
     comers = [nick for nick in own if nick not in members(room, name)]
     groups = [[(nick, frozenset(flags))] for nick in comers for flags in ([], [OPERATOR])]
     groups += [[(nick, frozenset({VOICE})) for nick in comers[:2]]] * (len(comers) > 1)
     effects = [Join(name, tuple(group), ((SPELLING, spelled),)) for group in groups for spelled in (name, name.upper())]
     if name in room.channels:
-        effects += [Join(name, (), ((place, value),)) for place, values in VALUES.items() for value in values if value is not None]
-        effects += [Join(name, (), in_order({KEY: b"y", LIMIT: 5, HIDDEN: b"p"}))]
+        alone = [{place: value} for place, values in VALUES.items() for value in values if value is not None] + [{KEY: b"y", LIMIT: 5, HIDDEN: b"p"}]
+        effects += [Join(name, (), in_order(values)) for values in alone if all(raises(room, name, *each) for each in values.items())]
     return effects
+
+
+def raises(room, name, place, value):
+    return rank(value) > rank(value_at(room, name, place))
 
 
 def of_channel(room, name):

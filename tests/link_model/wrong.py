@@ -27,7 +27,6 @@ WRONG = {
     "taken out once": (crossing, "is_out", lambda ours, nick, channel: isinstance(ours, Go) and RIGHT["is_out"](ours, nick, channel)),
     "greater of two": (crossing, "is_greater", lambda value, other: True),
     "greater, not lesser": (crossing, "is_greater", lambda value, other: rank(value) < rank(other)),
-    "idle": (crossing, "is_idle", lambda effect, held, value: False),
     "ended channel": (crossing, "ends", lambda room, ours, channel: False),
     "ended channel's row": (crossing, "row_back", lambda room, ours, channel: {}),
     "echo": (layer, "is_echo", lambda link, arrival, command: False),
