@@ -1,0 +1,23 @@
+-- What the code makes of lines by which a server sets.
+use Rattle.std.specs.Prelude.{ℕ, Option, List, true, ◌&&◌}
+use Rattle.std.specs.Option.{option_map}
+use Rattle.irc_modes.specs.declared.modes.ModeChange.{ModeChange}
+use Rattle.irc_names.specs.Names.{is_channel}
+use Rattle.irc_room.specs.Room.{Room}
+use Rattle.irc_link_words.specs.Words.{are_members_named}
+use Rattle.irc_link_reader.specs.Reader.{Reader, may_come}
+use Rattle.irc_server.specs.declared.setting.Setting.{Setting}
+use Rattle.irc_server.specs.declared.setting.Setting.TheVariants as setting
+use Rattle.irc_server.specs.LinesThatSet.{SettingRead, if_channel, member_nick, unless_wrong}
+
+-- a line of changes of a channel, once these are read
+abbrev pub changes_read : Room → Reader → (server channel : List ℕ) → List ModeChange → SettingRead
+changes_read room reader server channel changes =
+    unless_wrong true (may_come reader server) (is_channel channel && are_members_named changes)
+    (if_channel room channel (setting.Modes server channel changes))
+
+-- who is taken out of a channel, where it is a member
+abbrev pub removal_of : Room → (server channel nick text : List ℕ) → Option Setting
+removal_of room server channel nick text =
+    option_map (λ member. setting.Removal server channel member text)
+    (member_nick room channel nick)
