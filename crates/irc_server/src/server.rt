@@ -205,14 +205,15 @@ impl Server {
         ensures { IsSetBy self.old link line.now.items out.old.outs
             result self.new out.new.outs }
     {
+        let number = Link::of(link);
         let Some(view) = self.view() else {
             return Err(ServerFault::Failed);
         };
-        if let Some(fault) = unless_open(&view, Link::of(link)) {
+        if let Some(fault) = unless_open(&view, number) {
             return Err(fault);
         }
         let stage = taken(&mut self.first, &mut self.stage)?;
-        self.stage = Some(set_line(stage, Link::of(link), line)?.end(out)?);
+        self.stage = Some(set_line(stage, number, line)?.end(out)?);
         Ok(())
     }
 
