@@ -9,6 +9,7 @@ ghost use Rattle.irc_server.specs.LinesThatSet.{IsSetBy};
 ghost use Rattle.irc_server.specs.ReadEvents.{AreHandled, IsHandled};
 ghost use Rattle.irc_server.specs.Owed.{AllReceive};
 ghost use Rattle.irc_server.specs.Loops.Acting.{room_kept, room_of};
+ghost use Rattle.irc_server.specs.Loops.Settings.{fault_at};
 ghost use Rattle.irc_stage.specs.View.{password_for, View};
 
 use crate::acting::{act, refusal, unless_open};
@@ -192,6 +193,16 @@ impl Server {
         Ok(())
     }
 
+    /// Why a line of a link is refused, if it is.
+    fn refusal_at(&self, link: Link) -> Option<ServerFault>
+        ensures { result ≡ fault_at self.now link }
+    {
+        match self.view() {
+            Some(view) => unless_open(&view, link),
+            None => Some(ServerFault::Failed),
+        }
+    }
+
     /// Handles a line of a link by which a server sets: as a line that comes by a link
     /// ([`Event::LinkLine`]), but a MODE and a TOPIC with a server in front are done as they are
     /// written, be what they set greater or not than what is there, and a KICK with a server in
@@ -206,10 +217,7 @@ impl Server {
             result self.new out.new.outs }
     {
         let number = Link::of(link);
-        let Some(view) = self.view() else {
-            return Err(ServerFault::Failed);
-        };
-        if let Some(fault) = unless_open(&view, number) {
+        if let Some(fault) = self.refusal_at(number) {
             return Err(fault);
         }
         let stage = taken(&mut self.first, &mut self.stage)?;

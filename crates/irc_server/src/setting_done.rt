@@ -112,7 +112,9 @@ fn effect_of(setting: Setting) -> Option<Effect>
 {
     match setting {
         Setting::Modes {
-            channel, changes, ..
+            channel,
+            changes,
+            ..
         } => {
             if changes.as_slice().is_empty() {
                 return None;
