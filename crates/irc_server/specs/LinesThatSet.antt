@@ -155,12 +155,16 @@ abbrev pub setting_told : ℕ → Setting → Served → Served
 setting_told link what s =
     told_on_all (Some link) (setting_parts what) (all_changed (setting_effects what) s)
 
--- what comes of a line that sets; any other does what it does elsewhere
+-- what comes of a line that sets
+abbrev pub setting_followed : View → ℕ → SettingRead → Served
+setting_followed view link (Err why) = after_heard view link (closes why)
+setting_followed view link (Ok None) = in_silence view
+setting_followed view link (Ok (Some what)) = setting_told link what (in_silence view)
+
+-- any other line does what it does elsewhere
 abbrev pub after_setting : View → ℕ → Served → Option SettingRead → Served
 after_setting view link other None = other
-after_setting view link other (Some (Err why)) = after_heard view link (closes why)
-after_setting view link other (Some (Ok None)) = in_silence view
-after_setting view link other (Some (Ok (Some what))) = setting_told link what (in_silence view)
+after_setting view link other (Some read) = setting_followed view link read
 
 -- a line of a link by which a server sets
 abbrev pub line_set : View → ℕ → Result Parsed LineFault → Option End → Served

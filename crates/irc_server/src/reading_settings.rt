@@ -122,15 +122,24 @@ fn set_modes(
     expect_from(at, server.as_bytes())?;
     let channel = read_channel(target)?;
     expect_members(changes.as_slice())?;
-    if at.room.channel(channel.as_bytes()).is_none() {
-        return Ok(None);
-    }
     let server = server.copy();
-    Ok(Some(Setting::Modes {
+    let setting = Setting::Modes {
         server,
         channel,
         changes,
-    }))
+    };
+    Ok(if_channel(at.room, target, setting))
+}
+
+/// What is set of a channel, where that is there.
+fn if_channel(room: &Room, channel: &[u8], setting: Setting) -> Option<Setting>
+    ensures { result ≡ if_channel room.now.room channel.now setting }
+{
+    if room.channel(channel).is_some() {
+        Some(setting)
+    } else {
+        None
+    }
 }
 
 /// A topic is set.
@@ -142,21 +151,19 @@ fn topic_line(
     ensures { result ≡ topic_line at.entry.room.now.room (reader at.entry) server.now
         params.entry }
 {
-    let channel = params.next()?;
+    let target = params.next()?;
     let text = params.next()?;
     params.end()?;
     let text = read_words(text)?;
     expect_from(at, server.as_bytes())?;
-    let channel = read_channel(channel)?;
-    if at.room.channel(channel.as_bytes()).is_none() {
-        return Ok(None);
-    }
+    let channel = read_channel(target)?;
     let server = server.copy();
-    Ok(Some(Setting::Topic {
+    let setting = Setting::Topic {
         server,
         channel,
         text,
-    }))
+    };
+    Ok(if_channel(at.room, target, setting))
 }
 
 /// A member is taken out of a channel.

@@ -5,9 +5,9 @@ ghost use Rattle.irc_line.specs.Messages.{text};
 ghost use Rattle.irc_line.specs.PartViews.{words_now};
 ghost use Rattle.irc_line.specs.Reading.{read_of};
 ghost use Rattle.irc_link_writer.specs.Written.{from};
-ghost use Rattle.irc_stage.specs.EffectTold.{all_changed, in_silence};
-ghost use Rattle.irc_server.specs.LinesThatSet.{after_setting, line_set, setting_effects};
-ghost use Rattle.irc_server.specs.LinesThatSet.{setting_parts, setting_told};
+ghost use Rattle.irc_stage.specs.EffectTold.{all_changed};
+ghost use Rattle.irc_server.specs.LinesThatSet.{line_set, setting_effects};
+ghost use Rattle.irc_server.specs.LinesThatSet.{setting_followed, setting_parts, setting_told};
 
 use crate::losing::lose_link;
 use crate::reading_settings::read_setting;
@@ -34,21 +34,20 @@ pub(crate) fn set_line(stage: Stage, link: Link, line: &[u8]) -> Result<Serving,
         return Ok(stage.begin());
     };
     match read_setting(&view, link, end, line)? {
-        Some(read) => follow_setting(stage.begin(), link, read),
+        Some(read) => follow_setting(stage, link, read),
         None => hear_line(stage, link, line),
     }
 }
 
 /// What is read of a line that sets is done.
 fn follow_setting(
-    serving: Serving,
+    stage: Stage,
     link: Link,
     read: Result<Option<Setting>, CloseReason>,
 ) -> Result<Serving, AllocError>
-    requires begun { serving ≡ in_silence serving.state }
-    ensures { IfOk result (λ served. served
-        ≡ after_setting serving.state link serving (Some read)) }
+    ensures { IfOk result (λ served. served ≡ setting_followed stage link read) }
 {
+    let serving = stage.begin();
     match read {
         Err(reason) => lose_link(serving.close_link(link, reason)?, link),
         Ok(None) => Ok(serving),
