@@ -36,14 +36,16 @@ memory_out (Some view) new link line out out_after (Err fault) owed wants gone s
     (subst (λ o. IsSetBy (Some view) link line out (Err Memory) None o) (sym same)
     (wants_memory owed)))
 
-pub all_set : (now new : Option View) (view after : View) (link : ℕ) (line bytes : List ℕ)
-    (done : Served) (out out_after : List Sent) → now ≡ Some view → fault_at now link ≡ None
-    → bytes ≡ line → done ≡ line_set view link (read_of bytes) (get view.ends link)
-    → after ≡ done.state → new ≡ Some after → out_after ≡ out ++ done.out
+pub all_set : (now new : Option View) (view after : View) (link number : ℕ)
+    (line bytes : List ℕ) (done : Served) (out out_after : List Sent) → now ≡ Some view
+    → fault_at now link ≡ None → number ≡ link → bytes ≡ line
+    → done ≡ line_set view number (read_of bytes) (get view.ends number) → after ≡ done.state
+    → new ≡ Some after → out_after ≡ out ++ done.out
     → IsSetBy now link line out (Ok tt) new out_after
-all_set now new view after link line bytes done out out_after now_is owed bytes_are is after_is
-    new_is appended =
-    let set = is ∙ ap (λ b. line_set view link (read_of b) (get view.ends link)) bytes_are in
+all_set now new view after link number line bytes done out out_after now_is owed link_is bytes_are
+    is after_is new_is appended =
+    let set = is ∙ ap (λ n. line_set view n (read_of bytes) (get view.ends n)) link_is
+    ∙ ap (λ b. line_set view link (read_of b) (get view.ends link)) bytes_are in
     subst (λ (v : Option View). IsSetBy v link line out (Ok tt) new out_after) (sym now_is)
     (subst (λ (v : Option View). IsSetBy (Some view) link line out (Ok tt) v out_after)
     (sym new_is)

@@ -38,12 +38,12 @@ returns-in_err-end c = memory_out c.args.self.now _ c.args.link c.args.line.now.
 
 pub returns : goal.returns
 returns c = all_set c.args.self.now _ c.in_ok-stage.stage c.in_ok-end.field-0 c.args.link
-    c.args.line.now.items c.deref.result.now c.in_ok-set_line.field-0 c.args.out.now.outs
+    c.of-number.result c.args.line.now.items c.deref.result.now c.in_ok-set_line.field-0 c.args.out.now.outs
     c.end.new.out.outs
     (sym c.self.view_is ∙ c.in_ok-stage.ensures.taken)
     (ap (fault_at c.args.self.now) (sym c.of-number.ensures) ∙ sym c.refusal_at.ensures
     ∙ c.in_default.is)
-    c.deref.ensures.0
+    c.of-number.ensures c.deref.ensures.0
     c.in_ok-set_line.ensures c.in_ok-end.ensures.stage
     (ap (λ (first : Option View). option_or first (Some c.in_ok-end.field-0))
     c.taken.ensures.no_first)
