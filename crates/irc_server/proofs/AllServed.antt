@@ -1,6 +1,6 @@
 -- What holds of all that a server has put out, whatever it serves, by which links it has closed.
 use Rattle.std.proofs.Common.{ℕ, Bool, true, false, is_none, Option, Some, None, Result, List, []}
-use Rattle.std.proofs.Common.{◌∷◌, if◌then◌else◌}
+use Rattle.std.proofs.Common.{Ok, Err, ◌∷◌, if◌then◌else◌}
 use Rattle.std.specs.FinMap.{get}
 use Rattle.irc_line.specs.declared.reading.LineFault.{LineFault}
 use Rattle.irc_line.specs.Messages.{Parsed}
@@ -18,10 +18,17 @@ use Rattle.irc_server.specs.Served.{ReadEvent, of_client, link_up, link_says, li
 use Rattle.irc_server.specs.Closings.{closing_by_line, closing_heard, closing_opened}
 use Rattle.irc_server.specs.Closings.{closings_due}
 use Rattle.irc_server.proofs.PutOut.{IsKeptBehind, all_told_stays, client_event_stays, lost_stays}
-use Rattle.irc_server.proofs.PutOut.{on_link_stays, told_by_stays}
+use Rattle.irc_server.proofs.PutOut.{on_link_stays, setting_stays, told_by_stays}
+use Rattle.irc_server.specs.LinesThatSet.{SettingRead, after_setting, line_set, read_at}
 
 abbrev pub Closings : Type 0
 Closings = List (ℕ × CloseReason)
+
+-- what a line by which a server sets closes; any other closes what it closes elsewhere
+abbrev pub closing_set : ℕ → Closings → Option SettingRead → Closings
+closing_set link due None = due
+closing_set link due (Some (Err why)) = (link, why) ∷ []
+closing_set link due (Some (Ok what)) = []
 
 -- It holds where nothing is put out, where one link is closed, and still behind what closes none.
 pub record IsKeptWhenServed (test : Sent → Bool)
@@ -82,3 +89,22 @@ module _ (test : Sent → Bool) (Holds : Closings → List Sent → Type 0)
   served_so view (link_says link read) = line_so view link read (get view.ends link)
   served_so view (link_down link) =
       lost_stays test (Holds []) (keeps.behind []) link (in_silence view) keeps.nothing
+
+  -- ---- a line by which a server sets
+
+  after_setting_so : (view : View) (link : ℕ) (other : Served) (due : Closings)
+      → HoldsAt due other → (read : Option SettingRead)
+      → HoldsAt (closing_set link due read) (after_setting view link other read)
+  after_setting_so view link other due so None = so
+  after_setting_so view link other due so (Some (Err why)) = heard_so view link (closes why)
+  after_setting_so view link other due so (Some (Ok None)) = keeps.nothing
+  after_setting_so view link other due so (Some (Ok (Some what))) =
+      setting_stays test (Holds []) (keeps.behind []) link what (in_silence view) keeps.nothing
+
+  pub set_so : (view : View) (link : ℕ) (read : Result Parsed LineFault) (end : Option End)
+      → HoldsAt (closing_set link (closing_by_line view link read end)
+      (read_at view link read end)) (line_set view link read end)
+  set_so view link read end =
+      after_setting_so view link (line_served view link read end)
+      (closing_by_line view link read end) (line_so view link read end)
+      (read_at view link read end)

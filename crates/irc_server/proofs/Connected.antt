@@ -1,6 +1,7 @@
 -- Just those are connected who were, or come, and neither go nor are closed.
 use Rattle.std.proofs.Common.{◌≡◌, ℕ, Bool, true, false, cond, not, T, option_map, ◌&&◌, ◌||◌}
 use Rattle.std.proofs.Common.{nat_eq, is_none, is_some, Option, Some, None, Ok, Err, List, [], ◌∷◌}
+use Rattle.std.proofs.Common.{Result}
 use Rattle.std.proofs.Common.{◌++◌, refl, sym, ◌∙◌, ap, subst, filter_map, if◌then◌else◌}
 use Rattle.std.proofs.lemmas.Bool.{eq-eqb, eqb-true}
 use Rattle.std.proofs.lemmas.List.Folds.{list_any-append}
@@ -15,6 +16,7 @@ use Rattle.irc_batch.specs.declared.close_reason.CloseReason.TheVariants as reas
 use Rattle.irc_burst.specs.DeedsMeant.{Told, a_deed, a_server}
 use Rattle.irc_burst_lines.specs.DeedLines.{deed_parts}
 use Rattle.irc_commands.specs.Decide.{decide}
+use Rattle.irc_line.specs.declared.reading.LineFault.{LineFault}
 use Rattle.irc_line.specs.Messages.{Parsed, Written, text}
 use Rattle.irc_merge.specs.Deeds.{Deed, does, gains, loses, kills, brings, sets, tops, effects_of}
 use Rattle.irc_merge.specs.Quits.{collision_text}
@@ -58,13 +60,18 @@ use Rattle.irc_server.specs.Heard.{Heard, ignored, closes, password, meets, tell
 use Rattle.irc_server.specs.LinkServed.{after_heard, line_served, link_opened, met_by, on_link}
 use Rattle.irc_server.specs.LinkServed.{opening_parts, owes}
 use Rattle.irc_server.specs.Served.{ReadEvent, of_client, link_up, link_says, link_down, served}
-use Rattle.irc_server.specs.Connected.{AreConnectedAfter, WhoIsConnected, client_comes}
+use Rattle.irc_server.specs.declared.setting.Setting.{Setting}
+use Rattle.irc_server.specs.LinesThatSet.{SettingRead, after_setting, line_set, read_at}
+use Rattle.irc_server.specs.LinesThatSet.{setting_effects, setting_parts, setting_told}
+use Rattle.irc_server.specs.Connected.{AreConnectedAfter, AreConnectedBehind, WhoIsConnected}
+use Rattle.irc_server.specs.Connected.{WhoIsConnectedBehind, client_comes}
 use Rattle.irc_server.specs.Connected.{client_goes, ends_client, has_client, has_link}
 use Rattle.irc_server.specs.Connected.{is_client_ended, is_link_ended, is_there_after}
 use Rattle.irc_server.specs.Connected.{link_comes, link_goes}
 use Rattle.irc_server.specs.Closings.{closing_by_line, closing_heard, closings_due}
 use Rattle.irc_server.specs.Closings.{link_closings}
-use Rattle.irc_server.proofs.OwnClosings.{closes_its_own}
+use Rattle.irc_server.proofs.AllServed.{Closings, closing_set}
+use Rattle.irc_server.proofs.OwnClosings.{closes_its_own, set_closes}
 use Rattle.irc_server.proofs.AllOf.{all-append, all-each, all-flat, all-picked, all_entries}
 
 -- ---- numbers, and lists of what is put out
@@ -948,3 +955,70 @@ who_is_connected view (link_down link) new = as_law view (link_down link) (by_li
       clients_were = lost_were view link (in_silence view) (start_counts view);
       links_were = λ q is. absurd (cc (sym (link_ended_as view (link_down link) q [] refl) ∙ is));
     }
+
+-- ---- a line by which a server sets
+
+setting_counts : (clients links : ℕ → Bool) (link : ℕ) (what : Setting)
+    → Stays clients links (setting_told link what)
+setting_counts clients links link what s so =
+    all_told_counts clients links (Some link) (setting_parts what)
+    (all_changed (setting_effects what) s)
+    (all_changed_counts clients links (setting_effects what) s so)
+
+behind_law : (view : View) (link : ℕ) (read : Result Parsed LineFault) (s : Served)
+    → AreCounted view nobody nobody nobody nobody s → AreConnectedBehind view link read s
+behind_law view link read s so = record {
+  clients = so.clients;
+  links = so.links;
+  clients_were_there = so.clients_were;
+  links_were_there = so.links_were;
+}
+
+-- as a line does that is heard from any link
+as_heard : (view : View) (link : ℕ) (read : Result Parsed LineFault)
+    → AreConnectedAfter view (link_says link read)
+    → AreCounted view nobody nobody nobody nobody (line_served view link read (get view.ends link))
+unfolding served
+as_heard view link read so = record {
+  clients = so.clients;
+  links = so.links;
+  clients_were = so.clients_were_there;
+  links_were = so.links_were_there;
+}
+
+setting_after : (view : View) (link : ℕ) (end : End) (other : Served)
+    → get view.ends link ≡ Some end → AreCounted view nobody nobody nobody nobody other
+    → (due : Closings) (read : Option SettingRead)
+    → ((q : ℕ) → is_link_ended q (after_setting view link other read).out
+    ≡ list_any (closed_as q) (closing_set link due read))
+    → AreCounted view nobody nobody nobody nobody (after_setting view link other read)
+setting_after view link end other there so due None ended = so
+setting_after view link end other there so due (Some (Err why)) ended =
+    heard_after view link end there (closes why) ended
+setting_after view link end other there so due (Some (Ok None)) ended = itself view
+setting_after view link end other there so due (Some (Ok (Some what))) ended =
+    let s = setting_told link what (in_silence view) in
+    links_stay view nobody nobody s
+    (clients_stay view s
+    (setting_counts (has_client view) (has_link view) link what (in_silence view)
+    (start_counts view))) ended
+
+pub who_is_connected_behind : WhoIsConnectedBehind
+who_is_connected_behind view link read =
+    behind_law view link read (line_set view link read (get view.ends link))
+    (by (get view.ends link) refl)
+  where
+    heard_there : AreCounted view nobody nobody nobody nobody
+        (line_served view link read (get view.ends link))
+    heard_there = as_heard view link read (who_is_connected view (link_says link read) tt)
+
+    by : (o : Option End) → get view.ends link ≡ o
+        → AreCounted view nobody nobody nobody nobody (line_set view link read o)
+    by None is = itself view
+    by (Some end) is =
+        setting_after view link end (line_served view link read (Some end)) is
+        (subst (λ (p : Option End). AreCounted view nobody nobody nobody nobody
+        (line_served view link read p)) is heard_there)
+        (closing_by_line view link read (Some end)) (read_at view link read (Some end))
+        (λ q. link_ended_is q (line_set view link read (Some end)).out
+        ∙ ap (list_any (closed_as q)) (set_closes view link read (Some end)))

@@ -15,5 +15,6 @@ pub mod SplitTexts
 pub mod OneMachine
 pub mod SettingKept
 pub mod ToldInPart
+pub mod SetsDone
 pub mod WhatEventsDo
 pub mod Receiving

@@ -4,14 +4,16 @@ use Rattle.std.proofs.Common.{sym, ◌∙◌, ap}
 use Rattle.std.proofs.lemmas.List.{take-append-drop}
 use Rattle.std.proofs.lemmas.List.Prefix.{end_rest}
 use Rattle.std.proofs.lemmas.Slice.Eq.{bytes_eq-Decides}
+use Rattle.std.specs.FinMap.{get}
 use Rattle.std.specs.List.{list_all}
 use Rattle.irc_line.specs.Bytes.{crlf}
 use Rattle.irc_line.specs.Messages.{Written, line_text, text}
 use Rattle.irc_batch.specs.Batches.{Sent, end_of, end_of_link, line_on, line_to}
 use Rattle.irc_server.specs.Served.{served}
-use Rattle.irc_server.specs.LineEnds.{EndsInLineEnd, ServedLinesEnd}
+use Rattle.irc_server.specs.LineEnds.{EndsInLineEnd, ServedLinesEnd, SetLinesEnd}
+use Rattle.irc_server.specs.LinesThatSet.{line_set}
 use Rattle.irc_server.proofs.AllOf.{all-append, all-told}
-use Rattle.irc_server.proofs.AllServed.{Closings, IsKeptWhenServed, served_so}
+use Rattle.irc_server.proofs.AllServed.{Closings, IsKeptWhenServed, served_so, set_so}
 
 -- ---- one thing that is put out
 
@@ -58,3 +60,8 @@ pub lines_end : ServedLinesEnd
 lines_end view read_event =
     all-told is_ended EndsInLineEnd ends (served view read_event).out
     (served_so is_ended AllEnded stay_ended view read_event)
+
+pub set_lines_end : SetLinesEnd
+set_lines_end view link read =
+    all-told is_ended EndsInLineEnd ends (line_set view link read (get view.ends link)).out
+    (set_so is_ended AllEnded stay_ended view link read (get view.ends link))

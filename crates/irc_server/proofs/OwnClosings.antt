@@ -1,12 +1,16 @@
 -- Whatever is served, just the link by which a line came is closed that has a reason to be, or one
 -- that is opened to nobody known.
-use Rattle.std.proofs.Common.{◌≡◌, Bool, true, false, List, [], ◌∷◌, ◌++◌, append-nil, refl, ◌∙◌}
-use Rattle.std.proofs.Common.{ap}
+use Rattle.std.proofs.Common.{◌≡◌, ℕ, Bool, true, false, Option, Result, List, [], ◌∷◌, ◌++◌, refl}
+use Rattle.std.proofs.Common.{append-nil, ◌∙◌, ap}
 use Rattle.std.proofs.lemmas.List.Elements.{filter_map-append}
 use Rattle.std.specs.List.{list_all}
 use Rattle.irc_batch.specs.Batches.{Sent, end_of, end_of_link, line_on, line_to}
-use Rattle.irc_server.specs.Closings.{ServedClosesItsOwn, closing_of, link_closings}
-use Rattle.irc_server.proofs.AllServed.{Closings, IsKeptWhenServed, served_so}
+use Rattle.irc_line.specs.declared.reading.LineFault.{LineFault}
+use Rattle.irc_line.specs.Messages.{Parsed}
+use Rattle.irc_stage.specs.View.{End, View}
+use Rattle.irc_server.specs.Closings.{ServedClosesItsOwn, closing_by_line, closing_of, link_closings}
+use Rattle.irc_server.specs.LinesThatSet.{line_set, read_at}
+use Rattle.irc_server.proofs.AllServed.{Closings, IsKeptWhenServed, closing_set, served_so, set_so}
 
 -- whether it closes no link, as a test
 abbrev is_no_closing : Sent → Bool
@@ -44,3 +48,10 @@ stay_closed = record {
 
 pub closes_its_own : ServedClosesItsOwn
 closes_its_own = served_so is_no_closing AreClosings stay_closed
+
+-- so it is of a line by which a server sets
+pub set_closes : (view : View) (link : ℕ) (read : Result Parsed LineFault) (end : Option End)
+    → link_closings (line_set view link read end).out
+    ≡ closing_set link (closing_by_line view link read end) (read_at view link read end)
+set_closes view link read end =
+    set_so is_no_closing AreClosings stay_closed view link read end

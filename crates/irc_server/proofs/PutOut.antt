@@ -40,6 +40,8 @@ use Rattle.irc_stage.specs.ClientTold.{step_told, steps_told, unseated, user_tol
 use Rattle.irc_server.specs.DeedTold.{all_told, arrival_of, deed_told, deeds_told, forgotten}
 use Rattle.irc_server.specs.DeedTold.{gain_told, link_lost, lost_behind, titled_view, told_by}
 use Rattle.irc_server.specs.LinkServed.{on_link}
+use Rattle.irc_server.specs.declared.setting.Setting.{Setting}
+use Rattle.irc_server.specs.LinesThatSet.{setting_effects, setting_parts, setting_told}
 use Rattle.irc_server.proofs.AllOf.{all-append, all-each, all-flat, all-one, all-picked}
 use Rattle.irc_server.proofs.AllOf.{all_entries}
 use Rattle.irc_commands.specs.Closing.{error_line}
@@ -228,6 +230,11 @@ module _ (test : Sent → Bool) (Holds : List Sent → Type 0) (keeps : IsKeptBe
   pub lost_stays : (link : ℕ) → Stays (link_lost link)
   lost_stays link s holds =
       deeds_stays (Some link) (lost_behind s.state link (get s.state.ends link)) s holds
+
+  pub setting_stays : (link : ℕ) (what : Setting) → Stays (setting_told link what)
+  setting_stays link what s holds =
+      all_stays (Some link) (setting_parts what) (all_changed (setting_effects what) s)
+      (all_changed_stays (setting_effects what) s holds)
 
   -- ---- what clients do, where it holds of nothing put out
 

@@ -8,15 +8,19 @@
 --   `FOO` comes by 3               the end of 3 is put out, and 3 is a link no more
 --   link 6 is opened to x.net      which is no peer: the end of 6 is put out, and 6 is no link
 use Rattle.std.specs.Prelude.{◌≡◌, ℕ, Bool, true, false, not, ◌&&◌, ◌||◌, nat_eq, is_some, Option}
-use Rattle.std.specs.Prelude.{Some, None, List}
+use Rattle.std.specs.Prelude.{Some, None, List, Result}
 use Rattle.std.specs.FinMap.{get}
 use Rattle.std.specs.List.{list_any}
+use Rattle.irc_line.specs.declared.reading.LineFault.{LineFault}
+use Rattle.irc_line.specs.Messages.{Parsed}
 use Rattle.irc_batch.specs.Batches.{Sent, end_of, end_of_link}
 use Rattle.irc_stage.specs.declared.clients.Client.{Client}
 use Rattle.irc_stage.specs.declared.clients.Client.TheVariants.{Registering, Registered}
 use Rattle.irc_stage.specs.Handle.{connects, goes}
 use Rattle.irc_stage.specs.View.{View}
-use Rattle.irc_server.specs.Served.{ReadEvent, of_client, link_up, link_down, served}
+use Rattle.irc_server.specs.Served.{ReadEvent, Served, of_client, link_up, link_says, link_down}
+use Rattle.irc_server.specs.Served.{served}
+use Rattle.irc_server.specs.LinesThatSet.{line_set}
 use Rattle.irc_server.specs.Own.{IsNewLink}
 
 -- ---- who is there
@@ -94,3 +98,24 @@ abbrev pub WhoIsConnected : Type 0
 WhoIsConnected =
     (view : View) (read_event : ReadEvent) → IsNewLink view read_event
     → AreConnectedAfter view read_event
+
+-- ---- a line of a link by which a server sets
+
+-- It is so of such a line as well: nobody comes or goes by it but who is closed.
+pub record AreConnectedBehind (view : View) (link : ℕ) (read : Result Parsed LineFault)
+    (s : Served) : Type 0 where
+  pub clients : (conn : ℕ) → has_client s.state conn
+      ≡ is_there_after (has_client view conn) (client_comes conn (link_says link read))
+      (client_goes conn (link_says link read)) (is_client_ended conn s.out)
+  pub links : (number : ℕ) → has_link s.state number
+      ≡ is_there_after (has_link view number) (link_comes number (link_says link read))
+      (link_goes number (link_says link read)) (is_link_ended number s.out)
+  pub clients_were_there : (conn : ℕ) → is_client_ended conn s.out ≡ true
+      → has_client view conn ≡ true
+  pub links_were_there : (number : ℕ) → is_link_ended number s.out ≡ true
+      → (has_link view number || link_comes number (link_says link read)) ≡ true
+
+abbrev pub WhoIsConnectedBehind : Type 0
+WhoIsConnectedBehind =
+    (view : View) (link : ℕ) (read : Result Parsed LineFault)
+    → AreConnectedBehind view link read (line_set view link read (get view.ends link))

@@ -10,5 +10,6 @@ pub mod Lemmas
 pub mod Configuring
 pub mod Served
 pub mod ReadEvents
+pub mod LinesThatSet
 pub mod Owed
 pub mod Loops

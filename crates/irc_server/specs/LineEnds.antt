@@ -5,12 +5,16 @@
 --   al says hi in #c   on 3 and 4 `:al PRIVMSG #c :hi` and CR LF: the body, and two bytes more
 --   b.net loses c.net  on 4 `:b.net SQUIT c.net :gone` and CR LF
 -- A line that is too long is cut in front of its CR LF, never within it.
-use Rattle.std.specs.Prelude.{◌≡◌, ⊤, ◌-◌, ◌++◌, length, take}
+use Rattle.std.specs.Prelude.{◌≡◌, ℕ, ⊤, ◌-◌, ◌++◌, Result, length, take}
+use Rattle.std.specs.FinMap.{get}
 use Rattle.std.specs.List.{AllByRecursion}
 use Rattle.irc_line.specs.Bytes.{crlf}
+use Rattle.irc_line.specs.declared.reading.LineFault.{LineFault}
+use Rattle.irc_line.specs.Messages.{Parsed}
 use Rattle.irc_batch.specs.Batches.{Sent, line_on}
 use Rattle.irc_stage.specs.View.{View}
 use Rattle.irc_server.specs.Served.{ReadEvent, served}
+use Rattle.irc_server.specs.LinesThatSet.{line_set}
 
 -- a text on a link is its body, all but two bytes, and CR LF; of all else nothing is asked
 abbrev pub EndsInLineEnd : Sent → Type 0
@@ -21,3 +25,8 @@ EndsInLineEnd other = ⊤
 abbrev pub ServedLinesEnd : Type 0
 ServedLinesEnd = (view : View) (read_event : ReadEvent)
     → AllByRecursion EndsInLineEnd (served view read_event).out
+
+-- So it is of a line by which a server sets.
+abbrev pub SetLinesEnd : Type 0
+SetLinesEnd = (view : View) (link : ℕ) (read : Result Parsed LineFault)
+    → AllByRecursion EndsInLineEnd (line_set view link read (get view.ends link)).out

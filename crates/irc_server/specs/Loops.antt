@@ -2,3 +2,4 @@ pub mod Hearing
 pub mod Telling
 pub mod Serving
 pub mod Acting
+pub mod Settings

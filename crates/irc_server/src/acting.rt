@@ -252,7 +252,7 @@ fn if_open(view: &View<'_>, link: Link) -> Option<ServerFault>
 }
 
 /// A link by which something comes, or that is lost, is to be open.
-fn unless_open(view: &View<'_>, link: Link) -> Option<ServerFault>
+pub(crate) fn unless_open(view: &View<'_>, link: Link) -> Option<ServerFault>
     ensures { result ≡ no_link (get view.now.ends link) }
 {
     match view.end(link) {

@@ -1,8 +1,8 @@
 //! What holds of a server with links, whatever happens. Each law is a function that does nothing,
 //! and its contract is the law: the check proves it, and a crate above may cite it.
 ghost use Rattle.irc_server.specs.Closings.{ServedClosesItsOwn};
-ghost use Rattle.irc_server.specs.Connected.{WhoIsConnected};
-ghost use Rattle.irc_server.specs.LineEnds.{ServedLinesEnd};
+ghost use Rattle.irc_server.specs.Connected.{WhoIsConnected, WhoIsConnectedBehind};
+ghost use Rattle.irc_server.specs.LineEnds.{ServedLinesEnd, SetLinesEnd};
 ghost use Rattle.irc_server.specs.Own.{ServedGoesToItsOwn, ServedKeepsEnds};
 ghost use Rattle.irc_server.specs.Laws.{NeverBack, NeverBackOfAll};
 ghost use Rattle.irc_commands.specs.Comings.{RegisteredIsAdded, RegisteredStays};
@@ -30,6 +30,11 @@ pub fn served_lines_end()
     ensures { ServedLinesEnd }
 {}
 
+/// So does each line that it puts out by a line of a link by which a server sets.
+pub fn set_lines_end()
+    ensures { SetLinesEnd }
+{}
+
 /// A server closes just the link by which a line came that has a reason to be closed, for that
 /// reason, or one that it is told to open to a name that no peer has (RFC 2813 section 4.1).
 /// Whatever else happens closes no link.
@@ -41,6 +46,11 @@ pub fn served_closes_its_own()
 /// or goes.
 pub fn who_is_connected()
     ensures { WhoIsConnected }
+{}
+
+/// So it is by a line of a link by which a server sets: who is not closed stays.
+pub fn who_is_connected_behind()
+    ensures { WhoIsConnectedBehind }
 {}
 
 /// A deed that came by a link never goes back on it, nor do deeds one after another.

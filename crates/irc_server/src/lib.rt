@@ -12,8 +12,11 @@ pub mod laws;
 mod losing;
 mod members;
 mod quitting;
+mod reading_settings;
 mod server;
 mod serving;
+mod setting;
+mod setting_done;
 mod telling;
 
 pub use config::{Config, ConfigFault, config_fault};

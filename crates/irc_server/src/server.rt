@@ -5,18 +5,22 @@ ghost use Rattle.std.specs.Option.{option_and_then, option_copied, option_map, o
 ghost use Rattle.std.specs.Option.{option_or};
 ghost use Rattle.irc_server.specs.Configuring.{IsMade};
 ghost use Rattle.irc_server.specs.Connected.{has_user, is_user};
+ghost use Rattle.irc_server.specs.LinesThatSet.{IsSetBy};
 ghost use Rattle.irc_server.specs.ReadEvents.{AreHandled, IsHandled};
 ghost use Rattle.irc_server.specs.Owed.{AllReceive};
 ghost use Rattle.irc_server.specs.Loops.Acting.{room_kept, room_of};
+ghost use Rattle.irc_server.specs.Loops.Settings.{fault_at};
 ghost use Rattle.irc_stage.specs.View.{password_for, View};
 
-use crate::acting::{act, refusal};
+use crate::acting::{act, refusal, unless_open};
 use crate::config::{Config, ConfigFault, config_fault};
 use crate::event::{Event, ServerFault};
+use crate::setting_done::set_line;
 use irc_batch::Batch;
+use irc_line::Line;
 use irc_room::Room;
 use irc_routes::Routes;
-use irc_stage::{Client, Conn, FirstStage, Stage, View};
+use irc_stage::{Client, Conn, FirstStage, Link, Stage, View};
 use std::alloc::{AllocError, Global};
 use std::marker::Model;
 
@@ -186,6 +190,38 @@ impl Server {
         }
         let stage = taken(&mut self.first, &mut self.stage)?;
         self.stage = Some(act(stage, event)?.end(out)?);
+        Ok(())
+    }
+
+    /// Why a line of a link is refused, if it is.
+    fn refusal_at(&self, link: Link) -> Option<ServerFault>
+        ensures { result ≡ fault_at self.now link }
+    {
+        match self.view() {
+            Some(view) => unless_open(&view, link),
+            None => Some(ServerFault::Failed),
+        }
+    }
+
+    /// Handles a line of a link by which a server sets: as a line that comes by a link
+    /// ([`Event::LinkLine`]), but a MODE and a TOPIC with a server in front are done as they are
+    /// written, be what they set greater or not than what is there, and a KICK with a server in
+    /// front takes a member out of a channel.
+    ///
+    /// # Errors
+    /// As [`Server::handle`] for such an event: [`ServerFault::Failed`] where memory ran out
+    /// before; then, with nothing changed, [`ServerFault::NoSuchLink`]; [`ServerFault::Memory`]
+    /// where memory runs out, with `out` as it was.
+    pub fn set(&mut self, link: u64, line: &Line, out: &mut Batch) -> Result<(), ServerFault>
+        ensures { IsSetBy self.old link line.now.items out.old.outs
+            result self.new out.new.outs }
+    {
+        let number = Link::of(link);
+        if let Some(fault) = self.refusal_at(number) {
+            return Err(fault);
+        }
+        let stage = taken(&mut self.first, &mut self.stage)?;
+        self.stage = Some(set_line(stage, number, line)?.end(out)?);
         Ok(())
     }
 
