@@ -10,7 +10,7 @@ ghost use Rattle.irc_crossing.specs.Loops.Comers.{are_comers};
 ghost use Rattle.irc_crossing.specs.Logs.{is_first_read, nick_behind, put_out, through, unread};
 
 use crate::change::Change;
-use crate::lines::change_of;
+use crate::lines::{change_of, joined};
 use crate::modes::{ChannelModes, channel_modes, set_mode};
 use irc_line::{Message, parse};
 use irc_link_words::is_command;
@@ -98,7 +98,10 @@ impl Log {
     fn put_message(&mut self, piece: u64, message: &Message<'_>) -> Result<(), AllocError>
         ensures { OnOk result (self.new ≡ put_out piece (logged (parsed message.now)) self.old) }
     {
-        if is_command(b"JOIN", message.command) || is_command(b"NJOIN", message.command) {
+        if is_command(b"JOIN", message.command) {
+            return self.push(piece, joined(message));
+        }
+        if is_command(b"NJOIN", message.command) {
             return self.push(piece, None);
         }
         match channel_modes(self.alloc, message)? {
