@@ -11,7 +11,7 @@
 --   :cy PART #c :bye and :al JOIN #c         one member now      none before the JOIN, cy before
 --   :al JOIN #c and :cy PART #c :bye         one member now      cy before the JOIN
 use Rattle.std.specs.Prelude.{ℕ, ◌+◌, ◌-◌, min, Bool, false, ◌&&◌, ◌||◌, nat_eq, slice_get}
-use Rattle.std.specs.Prelude.{Option, Some, None, List, [], ◌∷◌, map, if◌then◌else◌}
+use Rattle.std.specs.Prelude.{Option, Some, None, List, [], ◌∷◌, if◌then◌else◌}
 use Rattle.std.specs.Option.{option_and_then, option_map_or}
 use Rattle.irc_names.specs.Fold.{same}
 use Rattle.irc_crossing.specs.declared.change.Change.{Change}
@@ -54,7 +54,8 @@ begins channel before entry = is_comer channel entry && nat_eq before 0
 
 -- the channel of a user who came to it by the change at a place, if that is such a one
 abbrev pub comer_at : (place : ℕ) → List Entry → Option (List ℕ)
-comer_at place log = option_and_then (λ (entry : Entry). comer_of entry.change) (slice_get log place)
+comer_at place log =
+    option_and_then (λ (entry : Entry). comer_of entry.change) (slice_get log place)
 
 -- how many were members before all of it was put out, of whom so many are now
 abbrev pub members_before : (channel : List ℕ) → (now : ℕ) → List Entry → ℕ

@@ -1,6 +1,7 @@
 -- Lines of wire that cross: the examples of `Changes.antt`, `Logs.antt`, `Hearing.antt` and
 -- `Comers.antt`.
-use Rattle.std.specs.Prelude.{◌≡◌, ℕ, Bool, suc, true, false, Some, None, List, [], ◌∷◌, ◌++◌, codes}
+use Rattle.std.specs.Prelude.{◌≡◌, ℕ, Bool, suc, true, false, Some, None, List, [], ◌∷◌, ◌++◌}
+use Rattle.std.specs.Prelude.{codes}
 use Rattle.irc_line.specs.Bytes.{crlf}
 use Rattle.irc_crossing.specs.Comers.{may_begin_anew, told_again}
 use Rattle.irc_crossing.specs.Hearing.{given, log_after, logged_of}
