@@ -1,6 +1,5 @@
 mod BothEnds
 mod BothMembers
-mod CountedBack
 mod Counting
 mod Examples
 mod Following

@@ -1,5 +1,4 @@
 pub mod Changes
-pub mod Comers
 pub mod Examples
 pub mod Hearing
 pub mod Laws

@@ -4,7 +4,6 @@
 #![tactic(auto)]
 
 mod change;
-mod comers;
 mod hearing;
 pub mod laws;
 mod lines;
