@@ -11,6 +11,8 @@ use Rattle.irc_crossing.specs.Examples.{GoneIsLeftOut, InviteIsLeftOut, KeyStays
 use Rattle.irc_crossing.specs.Examples.{KickIsFollowed, KickIsSet, ModeIsSet, OperatorIsBrought}
 use Rattle.irc_crossing.specs.Examples.{OperatorStays, OthersStay, PrivateYields, TopicIsSet}
 use Rattle.irc_crossing.specs.Examples.{TopicStays, TopicYields}
+use Rattle.irc_crossing.specs.Examples.{JoinBeforePart, JoinBeginsAnew, JoinBehindPart}
+use Rattle.irc_crossing.specs.Examples.{JoinFindsOne, MarkedJoinBegins, ToldAgain}
 use Rattle.irc_crossing.specs.Examples.{KickIsLeftOut, KillIsFollowed, KilledIsFollowed}
 use Rattle.irc_crossing.specs.Examples.{LetterIsLeftOut, MetGoes, MetIsGiven, MetIsKilled}
 use Rattle.irc_crossing.specs.Examples.{ModeIsLeftOut, NextIsSpared, PartIsLeftOut, TextIsLeftOut}
@@ -121,3 +123,27 @@ kick_is_set = refl
 pub operator_is_brought : OperatorIsBrought
 unfolding read_of is_nick is_channel fold fold_table line_text cut
 operator_is_brought = refl
+
+pub join_begins_anew : JoinBeginsAnew
+unfolding read_of is_nick is_channel fold fold_table
+join_begins_anew = refl
+
+pub join_finds_one : JoinFindsOne
+unfolding read_of is_nick is_channel fold fold_table
+join_finds_one = refl
+
+pub join_behind_part : JoinBehindPart
+unfolding read_of is_nick is_channel fold fold_table
+join_behind_part = refl
+
+pub join_before_part : JoinBeforePart
+unfolding read_of is_nick is_channel fold fold_table
+join_before_part = refl
+
+pub marked_join_begins : MarkedJoinBegins
+unfolding read_of is_nick is_channel fold fold_table
+marked_join_begins = refl
+
+pub is_told_again : ToldAgain
+unfolding read_of is_nick is_channel fold fold_table
+is_told_again = refl

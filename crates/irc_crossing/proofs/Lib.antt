@@ -1,5 +1,6 @@
 mod BothEnds
 mod BothMembers
+mod CountedBack
 mod Counting
 mod Examples
 mod Following

@@ -24,7 +24,7 @@ use Rattle.irc_names.specs.Fold.{same}
 use Rattle.irc_crossing.specs.declared.change.Change.{Change}
 use Rattle.irc_crossing.specs.declared.change.Change.TheVariants.{Come, Rename, Go, Out, Set}
 use Rattle.irc_crossing.specs.declared.setting.Setting.{Setting}
-use Rattle.irc_crossing.specs.declared.setting.Setting.TheVariants.{Mode, Topic}
+use Rattle.irc_crossing.specs.declared.setting.Setting.TheVariants.{Member, Mode, Topic}
 use Rattle.irc_crossing.specs.Settings.{yields}
 
 -- the nickname that somebody has by a change, and had not before; another spelling is no other one
@@ -62,7 +62,7 @@ member_now (Rename old new) channel nick = nick_now (Rename old new) nick
 member_now (Go gone other) channel nick = nick_now (Go gone other) nick
 member_now (Set setting) channel nick = Some nick
 
--- ---- what is set
+-- ---- what is set, and who comes to a channel
 
 -- a letter of a member, by that one's nickname now; none where that one is out of the channel
 abbrev pub mode_now : Change → (channel : List ℕ) → ModeChange → Option (List ℕ) → Option ModeChange
@@ -72,6 +72,8 @@ mode_now ours channel change (Some word) =
 
 abbrev pub setting_now : Change → Setting → Option Setting
 setting_now ours (Topic channel text) = Some (Topic channel text)
+setting_now ours (Member channel nick) =
+    option_map (λ now. Member channel now) (member_now ours channel nick)
 setting_now ours (Mode channel change) =
     if names_member change.letter
     then option_map (λ now. Mode channel now) (mode_now ours channel change change.word)

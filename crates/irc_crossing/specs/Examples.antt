@@ -1,13 +1,17 @@
--- Lines of wire that cross: the examples of `Changes.antt`, `Logs.antt` and `Hearing.antt`.
-use Rattle.std.specs.Prelude.{◌≡◌, ℕ, suc, true, false, Some, None, List, [], ◌∷◌, ◌++◌, codes}
+-- Lines of wire that cross: the examples of `Changes.antt`, `Logs.antt`, `Hearing.antt` and
+-- `Comers.antt`.
+use Rattle.std.specs.Prelude.{◌≡◌, ℕ, Bool, suc, true, false, Some, None, List, [], ◌∷◌, ◌++◌}
+use Rattle.std.specs.Prelude.{codes}
 use Rattle.irc_line.specs.Bytes.{crlf}
+use Rattle.irc_crossing.specs.Comers.{may_begin_anew, told_again}
 use Rattle.irc_crossing.specs.Hearing.{given, log_after, logged_of}
 use Rattle.irc_crossing.specs.Logs.{put_out, unread}
-use Rattle.irc_crossing.specs.declared.change.Change.TheVariants.{Go, Rename}
+use Rattle.irc_crossing.specs.declared.change.Change.TheVariants.{Go, Rename, Set}
 use Rattle.irc_crossing.specs.declared.hearing.Given.{Given}
 use Rattle.irc_crossing.specs.declared.hearing.Given.TheVariants.{AsItCame, Brings, Changed}
 use Rattle.irc_crossing.specs.declared.hearing.Given.TheVariants.{LeftOut, Kills, Sets}
 use Rattle.irc_crossing.specs.declared.log.Entry.{Entry}
+use Rattle.irc_crossing.specs.declared.setting.Setting.TheVariants.{Member}
 
 -- the log of an end that has put out these lines, each in a piece of its own from a number on
 abbrev pub log_of : ℕ → List (List ℕ) → List Entry → List Entry
@@ -165,3 +169,34 @@ pub record KilledIsFollowed : Type 0 where
   pub rob : given bob_comes (codes "b.net") false (codes ":bob NICK rob") ≡ LeftOut
   pub log_rob : rob_comes ≡ two_of (codes "rob")
   pub read : unread 6 rob_comes ≡ []
+
+-- ---- who comes to a channel, which may have ended at the other end
+
+-- whether #c may begin anew there, where these were put out and it has so many members now
+abbrev pub begins_anew : List (List ℕ) → ℕ → Bool
+begins_anew lines members = may_begin_anew (codes "#c") members (log_of 1 lines [])
+
+abbrev pub JoinBeginsAnew : Type 0
+JoinBeginsAnew = begins_anew (codes ":al JOIN #c" ∷ []) 1 ≡ true
+
+-- somebody else has been there all the time
+abbrev pub JoinFindsOne : Type 0
+JoinFindsOne = begins_anew (codes ":al JOIN #c" ∷ []) 2 ≡ false
+
+-- who has left before was there no more
+abbrev pub JoinBehindPart : Type 0
+JoinBehindPart = begins_anew (codes ":cy PART #c :bye" ∷ codes ":al JOIN #c" ∷ []) 1 ≡ true
+
+-- and who has left since still was
+abbrev pub JoinBeforePart : Type 0
+JoinBeforePart = begins_anew (codes ":al JOIN #c" ∷ codes ":cy PART #c :bye" ∷ []) 1 ≡ false
+
+-- one that has begun the channel here is told as such
+abbrev pub MarkedJoinBegins : Type 0
+MarkedJoinBegins = begins_anew (begun (codes ":al JOIN #c") ∷ []) 1 ≡ false
+
+-- what is told of again is begun by nobody
+abbrev pub ToldAgain : Type 0
+ToldAgain = told_again (codes "#C") (log_of 1 (codes ":al JOIN #c" ∷ codes ":al JOIN #d" ∷ []) [])
+    ≡ record { piece = 1; change = None }
+    ∷ record { piece = 2; change = Some (Set (Member (codes "#d") (codes "al"))) } ∷ []

@@ -1,4 +1,5 @@
 pub mod Changes
+pub mod Comers
 pub mod Examples
 pub mod Hearing
 pub mod Laws

@@ -4,11 +4,11 @@ use Rattle.std.specs.Prelude.{codes, get_or, map, option_to_list, if◌then◌el
 use Rattle.std.specs.Option.{option_and_then, option_map, option_map_or}
 use Rattle.irc_line.specs.Messages.{Parsed}
 use Rattle.irc_names.specs.Names.{is_channel, is_nick}
-use Rattle.irc_link_words.specs.Words.{are_words, is_command, told_changes}
+use Rattle.irc_link_words.specs.Words.{are_words, is_command, is_marked, told_changes}
 use Rattle.irc_crossing.specs.declared.change.Change.{Change}
 use Rattle.irc_crossing.specs.declared.change.Change.TheVariants.{Come, Rename, Go, Out, Set}
 use Rattle.irc_crossing.specs.declared.modes.ChannelModes.{ChannelModes}
-use Rattle.irc_crossing.specs.declared.setting.Setting.TheVariants.{Topic}
+use Rattle.irc_crossing.specs.declared.setting.Setting.TheVariants.{Member, Topic}
 use Rattle.irc_crossing.specs.Letters.{set_mode}
 
 -- a word of a line; no bytes where the line has fewer
@@ -98,10 +98,21 @@ channel_modes message = if is_mode_line message then modes_in message.params els
 
 -- ---- what is logged of a line: each thing that it changes
 
--- Of a JOIN and an NJOIN nothing is to be passed by what comes, but that it was put out: a channel
--- may have begun by it.
+abbrev pub member_of : (nick channel : List ℕ) → Option Change
+member_of nick channel =
+    if is_nick nick && is_channel channel then Some (Set (Member channel nick)) else None
+
+-- who comes by a JOIN to a channel that is there
+abbrev pub joined : Parsed → Option Change
+joined message =
+    if is_marked (word_at 0 message) then None
+    else option_and_then (λ nick. member_of nick (word_at 0 message)) message.prefix
+
+-- Of a JOIN that has begun its channel, and of an NJOIN, nothing is to be passed by what comes, but
+-- that it was put out: a channel may have begun by it.
 abbrev pub logged : Parsed → List (Option Change)
 logged message =
-    if is_join_line message || is_njoin_line message then None ∷ []
+    if is_join_line message then joined message ∷ []
+    else (if is_njoin_line message then None ∷ []
     else option_map_or (λ (modes : ChannelModes). map (set_mode modes.channel) modes.changes)
-    (channel_modes message) (map (λ change. Some change) (option_to_list (change_of message)))
+    (channel_modes message) (map (λ change. Some change) (option_to_list (change_of message))))

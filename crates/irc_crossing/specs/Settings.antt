@@ -1,6 +1,7 @@
--- What is set in a channel: a letter of a MODE, or the topic. Where both ends of a link set one
--- thing at once, the greater stays at both, as where two sides are linked: what is set over what is
--- taken away, s over p, the greater key, topic and spelling of a ban by bytes, the greater limit.
+-- What is set in a channel: a letter of a MODE, or the topic; and that a user comes to it, which
+-- gives way to nothing. Where both ends of a link set one thing at once, the greater stays at both,
+-- as where two sides are linked: what is set over what is taken away, s over p, the greater key,
+-- topic and spelling of a ban by bytes, the greater limit.
 --   a.net   :al TOPIC #c :one      b.net   :bo TOPIC #c :two      both have the topic two
 --   a.net   :al MODE #c -k x       b.net   :bo MODE #c +k y       both have the key y
 --   a.net   :al MODE #c +o bo      b.net   :bea MODE #c -o bo     bo is an operator at both

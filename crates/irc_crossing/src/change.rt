@@ -37,7 +37,8 @@ pub enum Change {
         /// Which channel.
         channel: ChannelName,
     },
-    /// Something is set in a channel: a letter of `:al MODE #c +k x`, or `:al TOPIC #c :hello`.
+    /// Something is set in a channel: a letter of `:al MODE #c +k x`, or `:al TOPIC #c :hello`; or
+    /// a user comes to one that is there: `:al JOIN #c`.
     Set(Setting),
 }
 
@@ -192,6 +193,10 @@ impl Change {
                 let channel = channel.copy();
                 Some(Setting::Mode { channel, change })
             }
+            Setting::Member { channel, nick } => Some(Setting::Member {
+                channel: channel.copy(),
+                nick: self.member_now(channel, nick)?,
+            }),
             other => Some(other.copy()),
         }
     }

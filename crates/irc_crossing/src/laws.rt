@@ -5,6 +5,8 @@ ghost use Rattle.irc_crossing.specs.Examples.{GoneIsLeftOut, InviteIsLeftOut, Ke
 ghost use Rattle.irc_crossing.specs.Examples.{KeyYields, KickIsSet, ModeIsSet, OperatorIsBrought};
 ghost use Rattle.irc_crossing.specs.Examples.{OperatorStays, OthersStay, PrivateYields};
 ghost use Rattle.irc_crossing.specs.Examples.{TopicIsSet, TopicStays, TopicYields};
+ghost use Rattle.irc_crossing.specs.Examples.{JoinBeforePart, JoinBeginsAnew, JoinBehindPart};
+ghost use Rattle.irc_crossing.specs.Examples.{JoinFindsOne, MarkedJoinBegins, ToldAgain};
 ghost use Rattle.irc_crossing.specs.Examples.{KickIsFollowed, KickIsLeftOut, KillIsFollowed};
 ghost use Rattle.irc_crossing.specs.Examples.{KilledIsFollowed, LetterIsLeftOut, MetGoes};
 ghost use Rattle.irc_crossing.specs.Examples.{MetIsGiven, MetIsKilled, ModeIsLeftOut};
@@ -93,4 +95,14 @@ pub fn gone_lines()
 /// Two lines behind one another, and the log.
 pub fn log_lines()
     ensures { KilledIsFollowed }
+{}
+
+/// Who comes to a channel that may have ended at the other end.
+pub fn comer_lines()
+    ensures alone { JoinBeginsAnew }
+    ensures other { JoinFindsOne }
+    ensures behind { JoinBehindPart }
+    ensures before { JoinBeforePart }
+    ensures marked { MarkedJoinBegins }
+    ensures again { ToldAgain }
 {}

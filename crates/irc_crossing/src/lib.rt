@@ -4,6 +4,7 @@
 #![tactic(auto)]
 
 mod change;
+mod comers;
 mod hearing;
 pub mod laws;
 mod lines;

@@ -2,12 +2,12 @@
 ghost use Rattle.std.specs.Prelude.{◌≡◌};
 ghost use Rattle.irc_line.specs.MessageViews.{optional_now, parsed};
 ghost use Rattle.irc_crossing.specs.Lines.{change_of, come_of, go_of, is_for_somebody, nick_change};
-ghost use Rattle.irc_crossing.specs.Lines.{out_of, rename_of, topic_of, word_at};
+ghost use Rattle.irc_crossing.specs.Lines.{joined, member_of, out_of, rename_of, topic_of, word_at};
 
 use crate::change::Change;
 use crate::setting::Setting;
 use irc_line::Message;
-use irc_link_words::{is_command, read_words};
+use irc_link_words::{is_command, is_marked, read_words};
 use irc_names::{ChannelName, Nick};
 
 /// What a line changes, but a MODE.
@@ -79,6 +79,26 @@ fn topic_of(channel: &[u8], text: &[u8]) -> Option<Change>
         Ok(text) => Some(Change::Set(Setting::Topic { channel, text })),
         Err(_) => None,
     }
+}
+
+/// Who comes by a JOIN to a channel that is there; none by one that has begun its channel.
+pub(crate) fn joined(message: &Message<'_>) -> Option<Change>
+    ensures { result ≡ joined (parsed message.now) }
+{
+    let channel = word_at(message, 0);
+    if is_marked(channel) {
+        None
+    } else {
+        member_of(message.prefix?, channel)
+    }
+}
+
+fn member_of(nick: &[u8], channel: &[u8]) -> Option<Change>
+    ensures { result ≡ member_of nick.now channel.now }
+{
+    let nick = Nick::read(nick)?;
+    let channel = ChannelName::read(channel)?;
+    Some(Change::Set(Setting::Member { channel, nick }))
 }
 
 /// A word of a line; no bytes where the line has fewer.

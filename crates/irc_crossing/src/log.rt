@@ -2,6 +2,7 @@
 ghost use Rattle.std.specs.Prelude.{◌≡◌, [], ◌∷◌, drop, length, map, nat_eq, OnOk};
 ghost use Rattle.std.specs.Option.{option_copied};
 ghost use Rattle.irc_line.specs.MessageViews.{parsed};
+ghost use Rattle.irc_crossing.specs.Comers.{comer_at, may_begin_anew, told_again};
 ghost use Rattle.irc_crossing.specs.Hearing.{logged_of};
 ghost use Rattle.irc_crossing.specs.Letters.{set_mode};
 ghost use Rattle.irc_crossing.specs.Lines.{logged};
@@ -10,11 +11,12 @@ ghost use Rattle.irc_crossing.specs.Loops.Comers.{are_comers};
 ghost use Rattle.irc_crossing.specs.Logs.{is_first_read, nick_behind, put_out, through, unread};
 
 use crate::change::Change;
-use crate::lines::change_of;
+use crate::comers::tell_all_again;
+use crate::lines::{change_of, joined};
 use crate::modes::{ChannelModes, channel_modes, set_mode};
 use irc_line::{Message, parse};
 use irc_link_words::is_command;
-use irc_names::same;
+use irc_names::{ChannelName, same};
 use std::alloc::{AllocError, Global};
 use std::collections::VecDeque;
 use std::marker::Model;
@@ -98,7 +100,10 @@ impl Log {
     fn put_message(&mut self, piece: u64, message: &Message<'_>) -> Result<(), AllocError>
         ensures { OnOk result (self.new ≡ put_out piece (logged (parsed message.now)) self.old) }
     {
-        if is_command(b"JOIN", message.command) || is_command(b"NJOIN", message.command) {
+        if is_command(b"JOIN", message.command) {
+            return self.push(piece, joined(message));
+        }
+        if is_command(b"NJOIN", message.command) {
             return self.push(piece, None);
         }
         match channel_modes(self.alloc, message)? {
@@ -204,6 +209,37 @@ impl Log {
             now = next;
         }
         Some(now)
+    }
+
+    /// The channel of a user who came to it by the change at a place, if that is such a one.
+    pub fn comer_at(&self, place: usize) -> Option<&ChannelName>
+        ensures { option_copied result ≡ comer_at place self.now }
+    {
+        self.entries.get(place)?.comer()
+    }
+
+    /// Whether a channel that has so many members here may have ended at the other end, which had
+    /// not read what was put out, before somebody comes to it there who came to it here.
+    pub fn may_begin_anew(&self, channel: &[u8], members: usize) -> bool
+        ensures { result ≡ may_begin_anew channel.now members self.now }
+    {
+        let mut place = self.entries.len();
+        let mut before = members;
+        let mut begins = false;
+        while place > 0 {
+            place -= 1;
+            let entry = &self.entries[place];
+            before = entry.undone(channel, before);
+            begins = entry.begins(channel, before, begins);
+        }
+        begins
+    }
+
+    /// A channel is told of again: who came to it is no longer to be passed.
+    pub fn tell_again(&mut self, channel: &[u8])
+        ensures { self.new ≡ told_again channel.now self.old }
+    {
+        tell_all_again(channel, self.entries.make_contiguous());
     }
 }
 

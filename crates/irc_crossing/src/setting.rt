@@ -1,4 +1,4 @@
-//! What is set in a channel, and which of two settings of one thing stays.
+//! What is set in a channel, and which of two settings of one thing stays; and who comes to it.
 ghost use Rattle.std.specs.Prelude.{◌≡◌};
 ghost use Rattle.std.specs.Option.{option_copied};
 ghost use Rattle.irc_crossing.specs.Settings.{are_greater_bytes, are_same_words, is_by_word};
@@ -8,7 +8,7 @@ ghost use Rattle.irc_crossing.specs.Settings.{place_of, yields};
 
 use irc_channels::Words;
 use irc_modes::{ModeChange, ModeLetter, read_limit};
-use irc_names::{ChannelName, same};
+use irc_names::{ChannelName, Nick, same};
 
 /// What is set in a channel, or taken away.
 #[derive(Drop)]
@@ -26,6 +26,13 @@ pub enum Setting {
         channel: ChannelName,
         /// The topic; an empty one is none.
         text: Words,
+    },
+    /// A user comes to it, where it is there: `:al JOIN #c`.
+    Member {
+        /// Which channel.
+        channel: ChannelName,
+        /// Who.
+        nick: Nick,
     },
 }
 
@@ -73,6 +80,10 @@ impl Setting {
             Setting::Topic { channel, text } => Setting::Topic {
                 channel: channel.copy(),
                 text: text.copy(),
+            },
+            Setting::Member { channel, nick } => Setting::Member {
+                channel: channel.copy(),
+                nick: nick.copy(),
             },
         }
     }
