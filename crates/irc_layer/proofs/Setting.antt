@@ -1,6 +1,6 @@
 -- The server of a layer is told to set what a line says.
-use Rattle.std.proofs.Common.{◌≡◌, ℕ, Option, Some, None, Result, Ok, Err, List, [], refl, sym}
-use Rattle.std.proofs.Common.{◌∙◌, ◌++◌, ap, subst, false, OnOk}
+use Rattle.std.proofs.Common.{◌≡◌, ℕ, Option, Some, Result, Ok, Err, List, [], refl, sym}
+use Rattle.std.proofs.Common.{◌∙◌, ◌++◌, subst, false, OnOk}
 use Rattle.irc_line.specs.Reading.{read_of}
 use Rattle.irc_batch.specs.Batches.{Sent}
 use Rattle.irc_stage.specs.View.{View}
@@ -12,7 +12,6 @@ use Rattle.irc_server.specs.LinesThatSet.{IsSetBy}
 use Rattle.irc_server.specs.Served.{link_says}
 use Rattle.irc_engine.specs.Machines.{is_out_of_memory, AreConnectedBy, IsConnectedBy}
 use Rattle.irc_engine.specs.Machines.{IsStillConnected}
-use Rattle.irc_layer.specs.Ends.{Ends}
 use Rattle.irc_layer.specs.Layers.{by_setting, not_open, sets, Sets, State}
 use Rattle.irc_layer.specs.Putting.{all_put, ends_behind_all}
 use Rattle.irc_layer.proofs.Connecting.{connected_put, nobody_goes, still_by_line}

@@ -1,4 +1,4 @@
-use Rattle.std.proofs.Common.{◌∙◌, ap, subst, sym, refl, List, Ok, Err}
+use Rattle.std.proofs.Common.{◌∙◌, ap, subst, sym}
 use Rattle.irc_server.specs.LinesThatSet.{IsSetBy}
 use Rattle.irc_layer.specs.Layers.{state_of}
 use Rattle.irc_layer.proofs.Setting.{not_set, still_if_ok, still_there}
