@@ -13,7 +13,8 @@ use Rattle.irc_layer.specs.Layers.Handles.{passes, refuses, wants_memory}
 use Rattle.irc_layer.specs.Layers.HearsAll.{all_heard, hears_more}
 
 -- what was heard so far of a piece, and one line more
-pub record HeardTo (mark : Option Mark) (link : ℕ) (all rest : List (List ℕ)) (first now : State) : Type 0 where
+pub record HeardTo (mark : Option Mark) (link : ℕ) (all rest : List (List ℕ))
+    (first now : State) : Type 0 where
   pub completes : (last : State) → HearsAll mark link rest now last
       → HearsAll mark link all first last
 

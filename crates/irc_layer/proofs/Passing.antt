@@ -28,7 +28,8 @@ module _ (arrival : Option ℕ) (event : Event) (old new : State) (held outs : L
   pub passes_by : IsHandled old.layer.server event held (Ok tt) new.layer.server outs
       → followed ≡ ends_followed event old.layer.plain old.layer.ends
       → new.layer.ends ≡ ends_behind_all (by_event arrival) outs followed
-      → new.layer.plain ≡ old.layer.plain → new.outs ≡ old.outs ++ all_put (by_event arrival) outs followed
+      → new.layer.plain ≡ old.layer.plain
+      → new.outs ≡ old.outs ++ all_put (by_event arrival) outs followed
       → Passes arrival event old new
   passes_by handled follows ends plain put = record {
     outs = outs;
@@ -43,7 +44,8 @@ module _ (arrival : Option ℕ) (event : Event) (old new : State) (held outs : L
       → new.outs ≡ old.outs ++ all_put (by_event arrival) outs followed
       → IsConnectedBy old.layer.server event old.outs new.layer.server new.outs
   connects_by connected put =
-      connected_put event (by_event arrival) followed old.layer.server new.layer.server outs old.outs new.outs
+      connected_put event (by_event arrival) followed old.layer.server new.layer.server outs
+      old.outs new.outs
       (subst (λ (h : List Sent). IsConnectedBy old.layer.server event h new.layer.server outs)
       none_held connected) put
 

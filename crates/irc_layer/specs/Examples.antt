@@ -53,7 +53,8 @@ CountIsInFront =
 -- servers that are lost together are one piece on each link
 abbrev pub LostServersAreOne : Type 0
 LostServersAreOne =
-    all_put (by_event None) (on 3 (codes ":a.net SQUIT c.net :x") ∷ on 4 (codes ":a.net SQUIT c.net :x")
+    all_put (by_event None)
+    (on 3 (codes ":a.net SQUIT c.net :x") ∷ on 4 (codes ":a.net SQUIT c.net :x")
     ∷ on 3 (codes ":a.net SQUIT d.net :x") ∷ on 4 (codes ":a.net SQUIT d.net :x")
     ∷ on 3 (codes ":al JOIN #c") ∷ []) (two_links 5 5)
     ≡ on 3 (codes "COUNT 5 2") ∷ on 3 (codes ":a.net SQUIT c.net :x") ∷ on 4 (codes "COUNT 5 2")
@@ -63,7 +64,8 @@ LostServersAreOne =
 -- a KILL does not go back on the link by which the NICK came that it answers
 abbrev pub KillDoesNotGoBack : Type 0
 KillDoesNotGoBack =
-    all_put (by_event (Some 3)) (on 3 (codes ":a.net KILL zed :x") ∷ on 4 (codes ":a.net KILL zed :x") ∷ [])
+    all_put (by_event (Some 3))
+    (on 3 (codes ":a.net KILL zed :x") ∷ on 4 (codes ":a.net KILL zed :x") ∷ [])
     (two_links 5 5) ≡ on 4 (codes ":a.net KILL zed :x") ∷ []
 
 -- What is set for somebody who is gone is marked.

@@ -58,8 +58,8 @@ abbrev pub is_echo : Cause → ℕ → List ℕ → Bool
 is_echo cause link line =
     option_map_or (λ came. nat_eq came link) cause.arrival false && is_kill_read (read_of line)
 
--- Whether a line is one that a link without counts has no place for: a KICK of a server, by which it
--- sets what somebody did who is gone.
+-- Whether a line is one that a link without counts has no place for: a KICK of a server, by which
+-- it sets what somebody did who is gone.
 abbrev pub is_kick_read : Result Parsed LineFault → Bool
 is_kick_read (Ok message) = is_kick_line message
 is_kick_read (Err fault) = false

@@ -91,7 +91,8 @@ impl End {
     /// # Errors
     /// Where memory runs out.
     pub fn give(&mut self, line: &[u8], peer: &[u8], is_held: bool) -> Result<Given, AllocError>
-        ensures given { IfOk result (λ became. became ≡ given self.old.log peer.now is_held line.now) }
+        ensures given { IfOk result
+            (λ became. became ≡ given self.old.log peer.now is_held line.now) }
         ensures after { OnOk result (self.new ≡ with_log_after line.now self.old) }
     {
         self.log.hear(line, peer, is_held)
