@@ -53,7 +53,8 @@ set_connects law server after link line before outs
 -- ---- it is set
 
 module _ (link : ℕ) (line : List ℕ) (old new : State) (held outs : List Sent)
-    (none_held : held ≡ []) (set : IsSetBy old.layer.server link line held (Ok tt) new.layer.server outs) where
+    (none_held : held ≡ [])
+    (set : IsSetBy old.layer.server link line held (Ok tt) new.layer.server outs) where
   abbrev from_none : IsSetBy old.layer.server link line [] (Ok tt) new.layer.server outs
   from_none = subst (λ (h : List Sent).
       IsSetBy old.layer.server link line h (Ok tt) new.layer.server outs) none_held set
