@@ -16,8 +16,8 @@ links to each daemon in turn and reads all that it tells, so daemons that differ
 
 tests/in_flight.py PROGRAM [PART ..] [--phases N] [--seed S] [--show]. PROGRAM is crates/ircd/out/ircd, which `./ircd build` makes; where IRCD
 names it, all words are parts. --phases is of `random` (300; 6,000 is the full number); --show prints each pair and phase that ends differently.
-A link is lost where the line between two daemons sees its connection end. Each part wants that none is; the matrix also that at most 11 pairs
-end differently, half_gone that nobody is on one side alone, and chase that what the operator did holds on both sides.
+A link is lost where the line between two daemons sees its connection end. Each part wants that none is; the matrix also that no pair ends
+differently, half_gone that nobody is on one side alone, and chase that what the operator did holds on both sides.
 Exit status: 0 where every part held, 1 where one did not.
 """
 import argparse
@@ -41,7 +41,6 @@ LAST = "#\xff"
 ROUNDS = 4
 DELAYS = [0.005, 0.02, 0.05]
 TRIES = 10
-MOST_UNLIKE = 11
 
 
 class Held:
@@ -367,7 +366,7 @@ def matrix(program, given):
                 if given.show and kind is not None:
                     print(f"     {KINDS.get(kind, 'link lost')}: {first} / {second}", flush=True)
         count = sum(unlike[kind] for kind in KINDS)
-        return told("matrix", unlike["lost"] == 0 and count <= MOST_UNLIKE and field.all_run(),
+        return told("matrix", unlike["lost"] == 0 and count == 0 and field.all_run(),
                     f"of {pairs} pairs {unlike['lost']} lose a link, and {count} end differently: {by_kind(unlike)}{why(field.reasons())}")
 
 
