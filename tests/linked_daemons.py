@@ -638,19 +638,44 @@ def counted(program):
         peer.says("NICK ww 1 u peer.example 1 + :W", ":ww JOIN #den")
         al.sees(":ww!")
         # each line behind SERVER was a piece; behind these al has another nickname, which w.net has not read when it writes
-        read = sum(not line.startswith("COUNT ") for line in peer.seen) - 2
+        read = pieces_of(peer)
         al.says("NICK ally")
         peer.sees(":al NICK :?ally")
         peer.says(f"COUNT {read} 1", ":ww PRIVMSG al :to whom I knew as al")
         is_meant = "to whom I knew" in al.sees(" PRIVMSG ally ")
         peer.says(*(f":ww PRIVMSG #den :{number}" for number in range(63)))
         is_told = bool(peer.sees("^COUNT 66 0$"))
+        is_set = sets_what_is_marked(peer, al)
+        is_greater = leaves_out_the_lesser(peer, al)
         peer.says("COUNT 1000 1", ":ww PART #den :more than there were")
         is_closed = peer.ends()
         al.says("NICK al")
         bo.sees(" NICK :?al$")
-        return told("counted", greets and is_meant and is_told and is_closed and are_well(network, al, bo),
-                    "it is answered with the word, al is told as ally what was said to al, 64 pieces behind the last count are counted, and 1000 end the link")
+        return told("counted", greets and is_meant and is_told and is_set and is_greater and is_closed and are_well(network, al, bo),
+                    "it is answered with the word, al is told as ally what was said to al, 64 pieces behind the last count are counted, what is marked "
+                    "is set and raises otherwise, of two topics at once the greater stays, and 1000 end the link")
+
+
+def pieces_of(peer):
+    """How many pieces it was told behind PASS and SERVER."""
+    return sum(not line.startswith("COUNT ") for line in peer.seen) - 2
+
+
+def sets_what_is_marked(peer, al):
+    """A topic of a server is set where its line is marked, else only where it is the greater."""
+    al.says("TOPIC #den :zeta")
+    peer.sees(" TOPIC #den :?zeta")
+    count = f"COUNT {pieces_of(peer)} 1"
+    peer.says(count, ":w.net TOPIC #den :alpha", f"{count} set", ":w.net TOPIC #den :beta")
+    return al.sees(":a.net TOPIC #den ").endswith("beta")
+
+
+def leaves_out_the_lesser(peer, al):
+    """Of two topics at once, where the peer has not read the one of al, the greater stays."""
+    al.says("TOPIC #den :mm")
+    peer.sees(" TOPIC #den :?mm")
+    peer.says(":ww TOPIC #den :kk", ":ww TOPIC #den :zz")
+    return al.sees(":ww!.* TOPIC #den ").endswith("zz")
 
 
 def doors(program):
