@@ -3,6 +3,8 @@
 starts its own daemons, and says what was wanted and what came. A link is lost where a daemon says so on standard error.
 
   relayed    one client floods a channel, in which somebody reads two servers away; no link is lost
+  far        four flood a channel in which somebody reads two servers away, behind 100 ms a way and 12.5 MB/s; no link is lost
+  leaves     one takes one nickname after another at a server with twenty others; no link is lost
   coming     clients connect, register and go, five at a time; no link is lost
   parting    fifty join and part ten channels each, with a text, beside two that say PING without end; no link is lost
   called     one says PING, or an unregistered one a byte, 1,000 times a second; a lost link is called again in time
@@ -57,7 +59,7 @@ NARROW = """
 sys.path.insert(0, sys.argv[1])
 from types import SimpleNamespace
 from linked_daemons import Line
-line = Line(SimpleNamespace(keep=lambda it: it), int(sys.argv[2]), rate=int(sys.argv[3]))
+line = Line(SimpleNamespace(keep=lambda it: it), int(sys.argv[2]), delay=float(sys.argv[4]), rate=int(sys.argv[3]))
 line.door.setsockopt(socket.SOL_SOCKET, socket.SO_RCVBUF, 32768)
 print(line.port, flush=True)
 line.join()
@@ -223,12 +225,13 @@ class Helper:
 
 class Tree(Network):
     """a.net, and who is linked to it. Of each link the first server calls the second, which has come before it. Some go over a line of so many bytes a
-    second. All run, and know each other."""
+    second, which brings them so many seconds later. All run, and know each other."""
 
-    def __init__(self, program, links, rates=None, retry=None, more="", **rooms):
+    def __init__(self, program, links, rates=None, retry=None, more="", delay=0.0, **rooms):
         names = list(dict.fromkeys(["a.net"] + [caller for caller, _ in links]))
         super().__init__(program, names, [], **({"client_room": CLIENT_ROOM, "link_room": MIB} | rooms))
         self.helpers = []
+        self.delay = delay
         try:
             for caller, called in links:
                 port, rate = self[called].links, (rates or {}).get((caller, called))
@@ -255,7 +258,7 @@ class Tree(Network):
 
     def narrowed(self, port, rate):
         """The port of a line to a port."""
-        return int(self.helps(NARROW, HERE, port, rate).first)
+        return int(self.helps(NARROW, HERE, port, rate, self.delay).first)
 
     def flooders(self, server, count=1):
         """Some who are in the channel and talk there without end."""
@@ -380,6 +383,28 @@ def relayed(program, given):
                             f"wanted: no link is lost as one at c.net floods who reads at a.net, b.net - a.net by {over(rate)}, link_room {room // MIB} MiB; "
                             f"came: {tree.what_came(took)}, {came / 1e6:.2f} MB read") and held
     return held
+
+
+def far(program, given):
+    with Tree(program, THREE, {TWO[0]: 12_500_000}, delay=0.1) as tree:
+        reader = tree.reader("a.net")
+        tree.flooders("c.net", 4)
+        took = tree.watches(given.seconds(15))
+        came = reader.last("read")
+        return told("far", tree.stands() and came > 1_000_000,
+                    "wanted: no link is lost as four at c.net flood who reads at a.net, b.net - a.net by a line of 12.5 MB/s that brings all 100 ms later, "
+                    f"link_room 1 MiB; came: {tree.what_came(took)}, {came / 1e6:.1f} MB read")
+
+
+def leaves(program, given):
+    names = [f"l{number}.net" for number in range(20)]
+    with Tree(program, [(name, "a.net") for name in names]) as tree:
+        tree.helps(TALKERS, tree["a.net"].port, "flapper", "JOIN #den\r\n", "NICK one\r\nNICK two\r\n")
+        before = tree["a.net"].seconds()
+        took = tree.watches(given.seconds(10))
+        share = (tree["a.net"].seconds() - before) / took
+        return told("leaves", tree.stands(), "wanted: no link of a server with twenty others is lost as one there takes one nickname after another; "
+                    f"came: {tree.what_came(took)}; the one in the middle takes {share:.2f} of a processor")
 
 
 def coming(program, given):
@@ -633,7 +658,7 @@ def stopped(program, given):
                     f"came: {tree.what_came(took)}; {room.missing()}, after {room.longest():.2f} s at most")
 
 
-ROWS = {"relayed": relayed, "coming": coming, "parting": parting, "called": called, "strangers": strangers, "nameless": nameless, "mute": mute, "reader": reader,
+ROWS = {"relayed": relayed, "far": far, "leaves": leaves, "coming": coming, "parting": parting, "called": called, "strangers": strangers, "nameless": nameless, "mute": mute, "reader": reader,
         "quiet": quiet, "memory": memory, "line": line, "star": star, "stopped": stopped}
 
 
