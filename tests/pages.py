@@ -43,7 +43,7 @@ ELSEWHERE = {
     # of the crate that a reader of docs/READING.md makes to try things
     "specs/Echo.antt", "proofs/spaces/Invariants.antt",
 }
-READER = re.compile(r"\bFor |\bfor who|\bwho ", re.IGNORECASE)
+READER = re.compile(r"\bFor |\b[Ww]ho ")
 
 
 # The repository
