@@ -11,7 +11,8 @@ The examples are of the end a.net, whose people are al and ann; bo and bea are a
 
 from dataclasses import replace
 
-from effects import (NOTHING, SPELLING, Come, Go, Join, Named, Out, Own, Rename, Set, Spoken, channel_of, done, in_order, is_flag, raised, rank,
+import variant
+from effects import (NOTHING, SPELLING, Come, Go, Join, Member, Named, Out, Own, Rename, Set, Spoken, channel_of, done, in_order, is_flag, raised, rank,
                      taken_by, with_names)
 
 
@@ -64,7 +65,7 @@ def gone_dropped(theirs, ours):
     match theirs:
         case Rename(nick, _, _) | Own(nick, _) | Named(nick):
             return NOTHING if is_out(ours, nick, None) else theirs
-        case Out(nick, channel):
+        case Out(nick, channel) | Member(nick, channel, _):
             return NOTHING if is_out(ours, nick, channel) else theirs
         case Go(nicks):
             return Go(frozenset(nick for nick in nicks if not is_out(ours, nick, None)))
@@ -88,6 +89,8 @@ def in_ended_channel(room, theirs, ours):
         a.net is given  :b.net NJOIN #c :bo, :b.net MODE #c +ntk x, :b.net TOPIC #c :what it was
     """
     channel = channel_of(theirs)
+    if isinstance(theirs, Member) or variant.DROP == "server":
+        return theirs
     if isinstance(theirs, Join) and theirs.members:
         return replace(theirs, values=in_order(raised(row_back(room, ours, channel), theirs.values)))
     is_there = channel in room.channels and not ends(room, ours, channel)
@@ -96,7 +99,7 @@ def in_ended_channel(room, theirs, ours):
 
 def row_back(room, ours, channel):
     """The row of a channel that ends with ours."""
-    return room.channels[channel].row if ends(room, ours, channel) else {}
+    return room.channels[channel].row if variant.ROW_BACK and ends(room, ours, channel) else {}
 
 
 def ends(room, ours, channel):

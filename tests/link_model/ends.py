@@ -14,15 +14,18 @@ A piece without lines tells the count alone, and is not counted itself.
                     :zed PRIVMSG #c :hello      a piece of its own
 """
 
+from dataclasses import replace
 from typing import NamedTuple
 
-from crossing import does_something, through
-from effects import EMPTY, Room, all_done, done
+import variant
+from crossing import crossed, does_something, through, two_to_one_name
+from effects import EMPTY, Go, Join, Member, Out, Set, Room, all_done, done, taken_by
 from lines import Reader, asked, tale
 from servers import parse
 
 MOST = 16                   # lines of a piece
 SET = b"set"
+KINDS_OUT = (Go, Out)
 
 
 class Piece(NamedTuple):
@@ -114,7 +117,39 @@ def meant(end, side, line, is_set):
         left, log = through(base, effect, log)
         base = done(base, effect)
         became.append(left)
-    return asked(writer, reader, told, became), end._replace(base=base, log=log, here=all_done(end.here, became))
+    if variant.CLEAR == "until":
+        touched = {effect.channel for effect in told.effects if isinstance(effect, (Join, Set))}
+        log = tuple((number, replace(entry, is_told=False) if isinstance(entry, Member) and entry.channel in touched else entry)
+                    for number, entry in log)
+    takes_out = taken_out(end.base, told.effects, became)
+    if variant.AFTER == "exact" and takes_out == frozenset():
+        takes_out = killed_out_of(end, told.effects)
+    return asked(writer, reader, told, became), end._replace(base=base, log=log, here=all_done(end.here, became)), takes_out
+
+
+def killed_out_of(end, effects):
+    """The channels out of which the other end takes two who took one name, as it reads of it."""
+    room = end.base
+    for effect in effects:
+        for place, (_, ours) in enumerate(end.log):
+            if two_to_one_name(effect, ours):
+                dead = {taken_by(ours), getattr(effect, "nick"), getattr(ours, "nick")}
+                return frozenset(name for name, channel in room.channels.items() if dead & set(channel.members))
+            effect, room = crossed(room, effect, ours), done(room, ours)
+    return frozenset()
+
+
+def taken_out(base, effects, became):
+    """The channels out of which a line takes somebody at the other end, or None for all."""
+    if variant.TOUCH == "set" and any(isinstance(effect, (Join, Set)) for effect in effects):
+        return frozenset(effect.channel for effect in effects if isinstance(effect, (Join, Set)))
+    if not any(isinstance(effect, KINDS_OUT) for effect in effects):
+        return None if variant.AFTER == "both" and any(isinstance(effect, KINDS_OUT) for effect in became) else frozenset()
+    if variant.TOUCH == "any":
+        return None
+    found = {effect.channel for effect in effects if isinstance(effect, Out)}
+    gone = {nick for effect in effects if isinstance(effect, Go) for nick in effect.nicks}
+    return frozenset(found | {name for name, channel in base.channels.items() if gone & set(channel.members)})
 
 
 def is_echo(link, arrival, command):

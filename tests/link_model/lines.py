@@ -352,6 +352,10 @@ def join_asked(writer, reader, tale, became):
         return raise_asked(writer, reader, tale, join)
     if tale.command == b"JOIN" and joins_plainly(writer, reader, tale, join):
         return put_right(reader, tale, join.members[0][0], {})
+    there = reader.room.channels.get(join.channel)
+    if tale.command == b"NJOIN" and join.members and there is not None and all(nick in there.members for nick, _ in join.members):
+        if reader.raises(join.channel, SPELLING, dict(join.values)[SPELLING]):
+            return [Spelling(server, dict(join.values)[SPELLING])]
     if tale.command == b"NJOIN" and join.members and join.values == tale.effects[0].values and brings_just(reader, tale, join):
         return [Line(tale.line)]
     members = replace(join, values=((SPELLING, dict(join.values)[SPELLING]),))
