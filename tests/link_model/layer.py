@@ -129,14 +129,14 @@ class Layer:
         lines += [written(own, b"MODE", [channel.name, *changes_written(changes)]) for changes in groups if changes]
         return lines + ([written(own, b"TOPIC", [channel.name], channel.topic)] if channel.topic else [])
 
-    def members_told(self, line, effects):
+    def members_told(self, line, effects, is_burst):
         """What the log has of those who are told to have come to a channel that is there."""
         _, command, words = parse(line)
         if variant.TELL == "no" or command not in ((b"JOIN",) if variant.TELL == "join" else (b"JOIN", b"NJOIN")):
             return []
         if variant.TELL != "every" and command == b"JOIN" and words[0].endswith(MARK):
             return []
-        return [Member(nick, effect.channel) for effect in effects if isinstance(effect, Join) for nick, _ in effect.members]
+        return [Member(nick, effect.channel, is_burst) for effect in effects if isinstance(effect, Join) for nick, _ in effect.members]
 
     def side(self, link):
         homes = {row.token: name for name, row in self.server.known.items() if row.link == link}
@@ -186,7 +186,7 @@ class Layer:
         if not is_echo(link, arrival, command):
             end = self.ends[link]
             effects = tale(line, Reader(end.here, self.own()), is_set).effects
-            self.ends[link] = with_line(end, line, [*effects, *self.members_told(line, effects)], is_set, self.most)
+            self.ends[link] = with_line(end, line, [*effects, *self.members_told(line, effects, variant.CLEAR == "until" and not end.greeted)], is_set, self.most)
         return []
 
     def event_over(self):
