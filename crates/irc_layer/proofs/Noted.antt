@@ -6,6 +6,8 @@ use Rattle.irc_stage.specs.View.{View}
 use Rattle.irc_server.specs.declared.event.Event.{Event}
 use Rattle.irc_server.specs.declared.event.ServerFault.{ServerFault}
 use Rattle.irc_server.specs.declared.event.ServerFault.TheVariants.{Memory, Failed}
+use Rattle.irc_server.specs.declared.event.ServerFault.TheVariants.{ConnectionThere, LinkThere}
+use Rattle.irc_server.specs.declared.event.ServerFault.TheVariants.{NoSuchConnection, NoSuchLink}
 use Rattle.irc_engine.specs.Machines.{is_out_of_memory, ran_out_before, runs_out_now}
 use Rattle.irc_engine.specs.Machines.{IsConnectedBy, IsRefusal}
 use Rattle.irc_layer.specs.Layers.{Handles, LayerView, State}
@@ -47,3 +49,7 @@ pub refused_then : (server : Option View) (event : Event) (r : Result (Unit {0})
 refused_then server event (Ok _) memory = tt
 refused_then server event (Err Memory) memory = runs_out_now
 refused_then server event (Err Failed) memory = ran_out_before
+refused_then server event (Err NoSuchConnection) memory = cc memory
+refused_then server event (Err ConnectionThere) memory = cc memory
+refused_then server event (Err NoSuchLink) memory = cc memory
+refused_then server event (Err LinkThere) memory = cc memory

@@ -1,19 +1,21 @@
 -- The server of a layer is told to set what a line says.
 use Rattle.std.proofs.Common.{◌≡◌, ℕ, Option, Some, None, Result, Ok, Err, List, [], refl, sym}
-use Rattle.std.proofs.Common.{◌∙◌, ◌++◌, ap, subst}
+use Rattle.std.proofs.Common.{◌∙◌, ◌++◌, ap, subst, false, OnOk}
 use Rattle.irc_line.specs.Reading.{read_of}
 use Rattle.irc_batch.specs.Batches.{Sent}
 use Rattle.irc_stage.specs.View.{View}
 use Rattle.irc_server.specs.declared.event.Event.TheVariants.{LinkLine}
 use Rattle.irc_server.specs.declared.event.ServerFault.{ServerFault}
 use Rattle.irc_server.specs.Connected.{AreConnectedBehind, WhoIsConnectedBehind}
-use Rattle.irc_server.specs.LinesThatSet.{set_by, IsSetBy, takes_it}
+use Rattle.irc_server.specs.LinesThatSet.{has_failed, refuses_it, set_by, takes_it, wants_memory}
+use Rattle.irc_server.specs.LinesThatSet.{IsSetBy}
 use Rattle.irc_server.specs.Served.{link_says}
-use Rattle.irc_engine.specs.Machines.{AreConnectedBy, IsConnectedBy, IsStillConnected}
+use Rattle.irc_engine.specs.Machines.{is_out_of_memory, AreConnectedBy, IsConnectedBy}
+use Rattle.irc_engine.specs.Machines.{IsStillConnected}
 use Rattle.irc_layer.specs.Ends.{Ends}
-use Rattle.irc_layer.specs.Layers.{by_setting, sets, IsSet, Sets, State}
+use Rattle.irc_layer.specs.Layers.{by_setting, not_open, sets, Sets, State}
 use Rattle.irc_layer.specs.Putting.{all_put, ends_behind_all}
-use Rattle.irc_layer.proofs.Connecting.{connected_put, still_by_line}
+use Rattle.irc_layer.proofs.Connecting.{connected_put, nobody_goes, still_by_line}
 
 -- ---- who is connected
 
@@ -69,7 +71,7 @@ module _ (link : ℕ) (line : List ℕ) (old new : State) (held outs : List Sent
     outs_are = put;
   })
 
-  pub still_set : WhoIsConnectedBehind
+  still_set : WhoIsConnectedBehind
       → new.outs ≡ old.outs ++ all_put (by_setting link) outs old.layer.ends
       → IsStillConnected old.layer.server old.outs new.layer.server new.outs
   still_set law put =
@@ -77,3 +79,40 @@ module _ (link : ℕ) (line : List ℕ) (old new : State) (held outs : List Sent
       new.outs (connected_put (LinkLine link (record { items = line })) (by_setting link)
       old.layer.ends old.layer.server new.layer.server outs old.outs new.outs
       (set_connects law old.layer.server new.layer.server link line [] outs from_none) put)
+
+  pub still_if_ok : {E : Type 0} (r : Result (Unit {0}) E) → WhoIsConnectedBehind
+      → OnOk r (new.outs ≡ old.outs ++ all_put (by_setting link) outs old.layer.ends)
+      → OnOk r (IsStillConnected old.layer.server old.outs new.layer.server new.outs)
+  still_if_ok (Ok _) law put = still_set law put
+  still_if_ok (Err fault) law put = tt
+
+-- ---- it is not: the link is not open
+
+same_server : (server after : Option View) (link : ℕ) (line : List ℕ) (fault : ServerFault)
+    (outs : List Sent) → is_out_of_memory fault ≡ false
+    → IsSetBy server link line [] (Err fault) after outs → (after ≡ server) × (outs ≡ [])
+same_server server after link line fault outs other (refuses_it is) = (refl, refl)
+same_server server after link line fault outs other (wants_memory none) = cc other
+same_server server after link line fault outs other has_failed = cc other
+
+module _ (link : ℕ) (line : List ℕ) (old : State) (after : Option View) (fault : ServerFault)
+    (held outs : List Sent) (none_held : held ≡ []) (other : is_out_of_memory fault ≡ false)
+    (refused : IsSetBy old.layer.server link line held (Err fault) after outs) where
+  abbrev from_nothing : IsSetBy old.layer.server link line [] (Err fault) after outs
+  from_nothing = subst (λ (h : List Sent).
+      IsSetBy old.layer.server link line h (Err fault) after outs) none_held refused
+
+  abbrev so : (after ≡ old.layer.server) × (outs ≡ [])
+  so = same_server old.layer.server after link line fault outs other from_nothing
+
+  pub not_set : Sets link line old (record old { layer = record old.layer { server = after } })
+  not_set = not_open fault other
+      (subst (λ (s : Option View). IsSetBy old.layer.server link line [] (Err fault) s []) so.0
+      (subst (λ (o : List Sent). IsSetBy old.layer.server link line [] (Err fault) after o) so.1
+      from_nothing))
+      (λ i. record old { layer = record old.layer { server = so.0 i } })
+
+  pub still_there : IsStillConnected old.layer.server old.outs after old.outs
+  still_there = subst (λ (s : Option View).
+      IsStillConnected old.layer.server old.outs s old.outs) (sym so.0)
+      (nobody_goes old.layer.server old.outs)

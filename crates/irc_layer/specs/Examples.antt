@@ -1,5 +1,5 @@
 -- What a layer puts out on links, over lines of wire: the examples of `Putting.antt`.
-use Rattle.std.specs.Prelude.{◌≡◌, ℕ, true, Some, None, List, [], ◌∷◌, ◌++◌, codes, nat_eq}
+use Rattle.std.specs.Prelude.{◌≡◌, ℕ, true, false, Some, None, List, [], ◌∷◌, ◌++◌, codes, nat_eq}
 use Rattle.std.specs.Prelude.{if◌then◌else◌}
 use Rattle.irc_line.specs.Bytes.{crlf}
 use Rattle.irc_batch.specs.Batches.{Sent, line_on, line_to}

@@ -163,12 +163,7 @@ impl End {
     }
 
     /// A piece begins, unless one has begun.
-    fn begin(
-        &mut self,
-        mark: Option<Mark>,
-        to: PieceOn,
-        out: &mut Batch,
-    ) -> Result<(), AllocError>
+    fn begin(&mut self, mark: Option<Mark>, to: PieceOn, out: &mut Batch) -> Result<(), AllocError>
         ensures outs { OnOk result
             (out.new.outs ≡ out.old.outs ++ count_before mark to.link to.lines self.old) }
         ensures after { OnOk result (self.new ≡ with_begun to.lines self.old) }

@@ -16,8 +16,7 @@ pub(crate) fn is_held(server: &Server, link: u64, line: &[u8]) -> bool
 {
     match parse(line) {
         Ok(message) => {
-            (is_command(b"NICK", message.command)
-                && is_held_at(server, link, first_word(&message)))
+            (is_command(b"NICK", message.command) && is_held_at(server, link, first_word(&message)))
                 || (is_command(b"JOIN", message.command)
                     && is_channel_at(server, unmarked(first_word(&message))))
         }

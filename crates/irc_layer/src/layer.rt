@@ -265,7 +265,7 @@ impl Layer {
                 };
                 put_all(&mut self.ends, cause, &mut self.held, out)
             }
-            Err(ServerFault::Memory | ServerFault::Failed) => Err(AllocError),
+            Err(fault) if is_out_of_memory(fault) => Err(AllocError),
             Err(_) => Ok(()),
         }
     }
@@ -354,6 +354,13 @@ impl Layer {
         let line = line_of(&kill_text(peer, nick));
         self.give(link, line, out)
     }
+}
+
+/// Whether memory ran out, now or before.
+fn is_out_of_memory(fault: ServerFault) -> bool
+    ensures { result ≡ is_out_of_memory fault }
+{
+    matches!(fault, ServerFault::Memory | ServerFault::Failed)
 }
 
 /// Whether an event is a line of a link that has an end.

@@ -40,12 +40,7 @@ pub(crate) fn put_all(
 }
 
 /// Puts out one thing after another.
-fn put_each(
-    ends: &mut Ends,
-    cause: Cause,
-    held: &Batch,
-    out: &mut Batch,
-) -> Result<(), AllocError>
+fn put_each(ends: &mut Ends, cause: Cause, held: &Batch, out: &mut Batch) -> Result<(), AllocError>
     ensures outs { OnOk result
         (out.new.outs ≡ out.old.outs ++ all_put cause held.now.outs (end_at ends.old)) }
     ensures ends { OnOk result

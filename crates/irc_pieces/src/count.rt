@@ -55,11 +55,7 @@ impl Mark {
     fn read(word: &[u8]) -> Option<Self>
         ensures { result ≡ mark_of word.now }
     {
-        if word == SET {
-            Some(Mark::Set)
-        } else {
-            None
-        }
+        if word == SET { Some(Mark::Set) } else { None }
     }
 }
 

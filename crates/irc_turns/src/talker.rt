@@ -113,7 +113,7 @@ impl Talker {
     ghost use Rattle.irc_turns.specs.Talking.{Keeps, none_read, read_over, is_put_off, has_taken};
     ghost use Rattle.irc_turns.specs.Talking.{took_none, written, named, given_up, load};
     ghost use Rattle.irc_turns.specs.Talking.{is_over_soft, is_over_hard, may_be_held};
-    ghost use Rattle.irc_turns.specs.Talking.{may_be_eased};
+    ghost use Rattle.irc_turns.specs.Talking.{may_be_eased, owes_much};
     ghost use Rattle.irc_turns.specs.Talking.{is_over, wants_signal, signalled, too_much_for};
     ghost use Rattle.irc_turns.specs.Talking.{lines_allowed, has_said};
 
@@ -222,7 +222,15 @@ impl Talker {
     pub fn is_over_hard(&self, marks: Marks) -> bool
         ensures { result ≡ is_over_hard marks self.now }
     {
-        self.load() > marks.hard || self.owed >= MOST_OWED_BYTES
+        self.load() > marks.hard || self.owes_much()
+    }
+
+    /// Whether so much was put out on a link that its other end has not said to have read that
+    /// nobody is read but such links: each of them is, since what was read is said on it alone.
+    pub fn owes_much(&self) -> bool
+        ensures { result ≡ owes_much self.now }
+    {
+        self.owed >= MOST_OWED_BYTES
     }
 
     /// So many bytes were put out on a link that its other end has not said to have read.

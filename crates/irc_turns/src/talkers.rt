@@ -18,6 +18,7 @@ ghost use Rattle.irc_turns.specs.Numbered.{reason_for, grown_reason, full_reason
 ghost use Rattle.irc_turns.specs.Numbered.{is_grown, is_filled, IsHeldFor, ReportsFirst, LetsGo};
 ghost use Rattle.irc_turns.specs.Numbered.{is_due, tried_for, wants_signal_one, LetsGoAt};
 ghost use Rattle.irc_turns.specs.Numbered.{lines_allowed_at, paced_reason, is_paced};
+ghost use Rattle.irc_turns.specs.Numbered.{owes_much_at, is_read_past_others};
 
 use crate::allowance::LinesPace;
 use crate::holding::{Held, Holding, Reason};
@@ -368,7 +369,24 @@ impl Talkers {
     fn others_full(&self, number: usize) -> Option<Reason>
         ensures { result ≡ full_reason self.now number }
     {
-        (!self.full.is_beside(number)).then_some(Reason::OthersFull)
+        (!self.is_read_past_others(number)).then_some(Reason::OthersFull)
+    }
+
+    /// Whether one is read though far too much waits for some: for no other, or much of what was
+    /// put out on its own link is unread.
+    fn is_read_past_others(&self, number: usize) -> bool
+        ensures { result ≡ is_read_past_others self.now number }
+    {
+        self.full.is_beside(number) || self.owes_much(number)
+    }
+
+    fn owes_much(&self, number: usize) -> bool
+        ensures { result ≡ owes_much_at self.now number }
+    {
+        match self.by_number.get(number) {
+            Some(talker) => talker.owes_much(),
+            None => false,
+        }
     }
 
     /// That this client takes nothing, if somebody may wait for it.
@@ -414,7 +432,7 @@ impl Talkers {
         ensures { result ≡ is_due now self.now held.now }
     {
         match held.reason {
-            Reason::OthersFull => self.full.is_beside(held.who),
+            Reason::OthersFull => self.is_read_past_others(held.who),
             Reason::Grown(mark) => !self.is_grown(mark),
             Reason::Filled(mark) => !(held.may_wait(now) && self.is_filled(mark)),
             Reason::Paced => !self.is_paced(held.who, now),
