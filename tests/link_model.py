@@ -43,7 +43,6 @@ import at_rest  # noqa: E402
 import diamond  # noqa: E402
 import orders   # noqa: E402
 import scripts  # noqa: E402
-import variant  # noqa: E402
 import wrong    # noqa: E402
 from ends import MOST   # noqa: E402
 from layer import Bare, Layer   # noqa: E402
@@ -136,8 +135,7 @@ def scripts_tried(given, count, length, tries, calm, cuts, most, kind=Net):
     faults = [(number, reason) for number, reason in sorted(found.items())]
     faults = [(*fault, *shortest(count, length, cuts, calm, how, fault[0])) for fault in faults[:given.show]] + faults[given.show:]
     title = f"{'seen' if kind is Watched else 'scripts'} on {count} servers, {'calm' if calm else 'harsh'}{', links cut' if cuts else ''}"
-    title += f", pieces of {how['most']}: {tries} scripts, {steps} steps, {loops} loops, {dict(variant.COUNT)}"
-    variant.COUNT.clear()
+    title += f", pieces of {how['most']}: {tries} scripts, {steps} steps, {loops} loops"
     return told(title, faults, given, began)
 
 

@@ -1,8 +1,9 @@
-"""The diamond: two ends did something each in one room; behind what both did they have one room again. Tried of pairs of effects and of lists."""
+"""The diamond: two ends did something each in one room; behind what both did they have one room again, but for rows of channels that ended on one of
+the two ways, which are told again (ends.py). Tried of pairs of effects and of lists."""
 
 from crossing import crossed, related, through
 from effects import (EMPTY, HIDDEN, KEY, LIMIT, NOTHING, OPERATOR, SPELLING, TOPIC, VOICE, Come, Go, Join, Named, Out, Own, Person,
-                     Rename, Set, Spoken, all_done, ban, done, flag, in_order, rank, value_at)
+                     Rename, Room, Set, Spoken, all_done, ban, done, flag, in_order, rank, value_at)
 from lost import lost, taken_back
 
 SIDES = [b"a.net", b"b.net"]
@@ -107,10 +108,25 @@ def needs_what_is_related(room, theirs, ours):
 
 
 def meet(room, theirs, ours, theirs_behind, ours_behind):
-    """Whether both ways come to one room, by effects that are possible there."""
+    """Whether both ways come to one room, but for what has ended on one of them, by effects that are possible there."""
     one, other = all_done(room, ours), all_done(room, theirs)
+    ended = ended_by(room, [*ours, *theirs_behind]) | ended_by(room, [*theirs, *ours_behind])
     return (all_possible(one, theirs_behind) and all_possible(other, ours_behind)
-            and all_done(one, theirs_behind) == all_done(other, ours_behind))
+            and but_rows(all_done(one, theirs_behind), ended) == but_rows(all_done(other, ours_behind), ended))
+
+
+def ended_by(room, effects):
+    """The channels that end by effects, be they made anew or not."""
+    ended = set()
+    for effect in effects:
+        behind = done(room, effect)
+        ended, room = ended | (set(room.channels) - set(behind.channels)), behind
+    return ended
+
+
+def but_rows(room, names):
+    """A room without the rows of some channels."""
+    return Room(room.people, {name: channel._replace(row={}) if name in names else channel for name, channel in room.channels.items()})
 
 
 def some_room(chance):

@@ -140,11 +140,11 @@ class Spoken:
 
 @dataclass(frozen=True, slots=True)
 class Member:
-    """In a log: somebody was told to have come to a channel that was there. It does nothing."""
+    """Somebody was told to come to a channel: in a log, behind the Join. It does nothing. :al JOIN #c, :a.net NJOIN #c :@al"""
 
     nick: bytes
     channel: bytes
-    is_told: bool = False       # the row was told again since
+    is_told: bool           # what is set there was told behind it, and the other end has joined or set nothing since
 
 
 @dataclass(frozen=True, slots=True)

@@ -2,15 +2,16 @@
 
 It sees what comes by a link before the server does, and what the server puts out on links behind it. Of the server it reads who the other end of
 a link is, and the numbers of servers and the links that they are behind; its room it has from the ends of its links.
+
+Behind each line that came it looks which channels may have ended at the other end, and behind the whole piece it tells those again on that link
+alone, of itself: its server is not asked, and nothing changes there (ends.py). Between the two the base behind the log is not the server's room, for
+in the one the channel has ended; at rest it is.
 """
 
-from dataclasses import replace
-
-import variant
-from effects import Join, Member, Out, all_done
-from ends import MOST, NEW, counted, flushed, is_echo, meant, piece_read, with_line
-from lines import MARK, Kick, Line, Modes, Reader, Side, Spelling, Topic, tale
-from servers import Change, changes_written, copied, fold, kicked_by_server, modes_by_server, parse, room_of, spelled_by_server, topic_by_server, written
+from effects import all_done
+from ends import MOST, NEW, counted, entries, flushed, is_echo, looked, meant, piece_read, told_again, with_line
+from lines import Kick, Line, Modes, Reader, Side, Spelling, Topic, tale
+from servers import copied, kicked_by_server, modes_by_server, parse, room_of, spelled_by_server, topic_by_server
 
 DEEDS = {Kick: kicked_by_server, Modes: modes_by_server, Topic: topic_by_server, Spelling: spelled_by_server}
 
@@ -52,13 +53,12 @@ class Layer:
         piece, count = piece_read(lines, end.heard)
         assert end.heard <= count <= end.sent
         self.ends[link] = counted(end, count)
-        put, self.may_tell = [], set()
+        put = []
         for line in piece.lines:
             if link in self.ends:
                 put += self.line(link, line, piece.is_set)
-        if link in self.ends:
-            self.tell_again(link)
         if link in self.ends and piece.lines:
+            self.tell_again(link)
             self.ends[link] = self.ends[link]._replace(read=self.ends[link].read + 1)
         return put + self.flush()
 
@@ -71,72 +71,17 @@ class Layer:
 
     def line(self, link, line, is_set):
         """The server is asked for what a line means here."""
-        items, self.ends[link], takes_out = meant(self.ends[link], self.side(link), line, is_set)
+        items, self.ends[link], names = meant(self.ends[link], self.side(link), line, is_set)
         put = []
         for item in items:
             self.give(link, item)
             put += self.taken(link, not isinstance(item, Line))
-        if takes_out != frozenset() and variant.TELL != "no" and link in self.ends:
-            variant.COUNT["takes out"] += 1
-            self.may_tell |= {name for name in self.told_to_come(link) if (takes_out is None or name in takes_out)
-                              and name in self.server.channels and self.may_have_ended(link, name, self.server.channels[name])}
+        if link in self.ends:
+            self.ends[link] = looked(self.ends[link], names)
         return put
 
-    def told_to_come(self, link):
-        return {entry.channel for _, entry in self.ends[link].log if isinstance(entry, Member)}
-
     def tell_again(self, link):
-        """Each channel that may have ended at the other end, before somebody comes there who was told to have come."""
-        for name in sorted(self.may_tell):
-            channel = self.server.channels.get(name)
-            if channel is None or name not in self.told_to_come(link):
-                continue
-            near = [nick for nick in sorted(channel.members) if not self.server.is_behind(self.server.users[nick].home, link)]
-            if near:
-                variant.COUNT["told again"] += 1
-                for line in self.row_lines(channel, near):
-                    end = self.ends[link]
-                    self.ends[link] = with_line(end, line, tale(line, Reader(end.here, self.own()), False).effects, False, self.most)
-                end = self.ends[link]
-                if variant.CLEAR == "yes":
-                    log = tuple((number, entry) for number, entry in end.log if not (isinstance(entry, Member) and entry.channel == name))
-                elif variant.CLEAR == "until":
-                    log = tuple((number, replace(entry, is_told=True) if isinstance(entry, Member) and entry.channel == name else entry)
-                                for number, entry in end.log)
-                else:
-                    log = end.log
-                self.ends[link] = end._replace(log=log)
-
-    def may_have_ended(self, link, name, channel):
-        count = len(channel.members)
-        for _, entry in reversed(self.ends[link].log):
-            if isinstance(entry, Out) and entry.channel == name:
-                count += 1
-            elif isinstance(entry, Member) and entry.channel == name:
-                count = max(count - 1, 0)
-                if count == 0 and not entry.is_told:
-                    return True
-        return False
-
-    def row_lines(self, channel, near):
-        """What a burst tells of a channel."""
-        own, members = self.module.OWN, [self.server.marked(nick, channel.members[nick]) for nick in near]
-        if variant.NJOIN == "nobody":
-            members = []
-        lines = [written(own, b"NJOIN", [channel.name], b",".join(members[first:first + 10])) for first in range(0, len(members) or 1, 10)]
-        groups = [channel.all_set()] + [[Change(b"+", b"b", mask) for mask in channel.bans[first:first + 3]]
-                                        for first in range(0, len(channel.bans), 3)]
-        lines += [written(own, b"MODE", [channel.name, *changes_written(changes)]) for changes in groups if changes]
-        return lines + ([written(own, b"TOPIC", [channel.name], channel.topic)] if channel.topic else [])
-
-    def members_told(self, line, effects, is_burst):
-        """What the log has of those who are told to have come to a channel that is there."""
-        _, command, words = parse(line)
-        if variant.TELL == "no" or command not in ((b"JOIN",) if variant.TELL == "join" else (b"JOIN", b"NJOIN")):
-            return []
-        if variant.TELL != "every" and command == b"JOIN" and words[0].endswith(MARK):
-            return []
-        return [Member(nick, effect.channel, is_burst) for effect in effects if isinstance(effect, Join) for nick, _ in effect.members]
+        self.ends[link] = told_again(self.ends[link], self.side(link), self.own(), self.most)
 
     def side(self, link):
         homes = {row.token: name for name, row in self.server.known.items() if row.link == link}
@@ -152,7 +97,7 @@ class Layer:
             self.note(link, item)
         if isinstance(item, Line):
             self.server.hear(link, item.text)
-        elif fold(item.channel) in self.server.channels or variant.DROP == "layer":
+        else:
             self.deeds += 1
             DEEDS[type(item)](self.server, link, item)
 
@@ -185,8 +130,8 @@ class Layer:
             return [("link", link, (line,))]
         if not is_echo(link, arrival, command):
             end = self.ends[link]
-            effects = tale(line, Reader(end.here, self.own()), is_set).effects
-            self.ends[link] = with_line(end, line, [*effects, *self.members_told(line, effects, variant.CLEAR == "until" and not end.greeted)], is_set, self.most)
+            told = tale(line, Reader(end.here, self.own()), is_set)
+            self.ends[link] = with_line(end, line, [*told.effects, *entries(told, not end.greeted)], is_set, self.most)
         return []
 
     def event_over(self):
@@ -209,12 +154,13 @@ class Layer:
         return [("link", link, (b"COUNT %d 0" % end.read,))]
 
     def faults(self):
-        """What is wrong inside: the base behind the log is to be the server's room."""
+        """What is wrong inside: each end is to have the server's room."""
         room = room_of(self.server)
-        return [link for link, end in sorted(self.ends.items()) if end.greeted and
-                not (end.here == room and (not variant.ROW_BACK or all_done(end.base, [effect for _, effect in end.log]) == room))]
+        return [link for link, end in sorted(self.ends.items()) if end.greeted and end.here != room]
 
     def faults_at_rest(self):
+        """What is wrong inside where nothing is on its way: the base behind the log is to be the server's room, so that what may have ended at the
+        other end was told again. Before that it may lack the row of such a channel."""
         room = room_of(self.server)
         return [link for link, end in sorted(self.ends.items()) if end.greeted and
                 all_done(end.base, [effect for _, effect in end.log]) != room]
