@@ -2,20 +2,22 @@
 
 Two ends have the same room; each does something, and then reads what the other did. `crossed(room, theirs, ours)` is what becomes of their
 effect behind ours, so that both rooms are the same again: behind ours and what becomes of theirs, and behind theirs and what becomes of
-ours. Both were made in the same room, and what is a user's own to do comes from one side: no two NICK of one user cross, and no two JOIN of one
-user to one channel. Of one effect one is left, or nothing. Of the room there is read what a place has, and who is in a channel that somebody
-leaves.
+ours. Both were made in the same room, and what is a user's own to do comes from one side: no two NICK of one user cross, and no two JOIN of
+one user to one channel. Of one effect one is left, or nothing. Of the room there is read what a place has, and who is in a channel that
+somebody leaves.
 
-One thing the rules leave different, the row of a channel that ends at one end and not at the other: who comes to it makes it anew at the first,
-without what was set, and comes to one that is as it was at the other, which tells it again (ends.py). So no row is kept of what has ended.
+One thing the rules leave different, the row of a channel that ends at one end and not at the other. At the first, who comes makes it anew,
+without what was set; at the second it is as it was, and that end tells it again (ends.py). So no end keeps a row of what has ended, nor has
+to know it before the event by which it ends.
+
 
 The examples are of the end a.net, whose people are al and ann; bo and bea are at b.net.
 """
 
 from dataclasses import replace
 
-from effects import (NOTHING, SPELLING, Come, Go, Join, Member, Named, Out, Own, Rename, Set, Spoken, channel_of, done, is_flag, rank, taken_by,
-                     with_names)
+from effects import (NOTHING, SPELLING, Come, Go, Join, Member, Named, Out, Own, Rename, Set, Spoken, channel_of, done, is_flag, rank,
+                     taken_by, with_names)
 
 
 def crossed(room, theirs, ours):

@@ -22,23 +22,26 @@ without members. So this end tells it again, as a burst does, and the other end 
 
 When it does so it has to know by its log, for the other end keeps nothing of what has ended:
 
-- Each member of a JOIN or NJOIN that is put out is an entry of the log, a Member, behind the Join. That of a JOIN that makes an operator too, which
-  made the channel here: at the other end it may have been there, and have ended.
+- Each member of a JOIN or NJOIN that is put out is an entry of the log, a Member, behind the Join. That of a JOIN that makes an operator
+  too: it made the channel here, but at the other end the channel may have been there, and have ended.
 
-    b.net writes    :bo JOIN #c\7o              and reads :al JOIN #c\7o, :al MODE #c +k x, :al PART #c :bye
+    b.net writes    :bo JOIN #c\\7o              and reads :al JOIN #c\\7o, :al MODE #c +k x, :al PART #c :bye
                                                 a.net has #c without the key
 
-- An entry is told once what is set in its channel was told behind it. Of a burst they begin as told, for what is set comes behind them. It is told
-  no more once the other end joins or sets something of the channel: that was not in what was told.
-- Which channels are looked at: behind a line that takes somebody out at the other end, those that it takes them out of there; behind a line by
-  which two go who took one name, all, for the other end has not written who goes. No channel ends by another line.
-- Whether one may have ended: the members are counted as it is here, and the log is walked from its end to its front. An Out is one member more
-  before it, an entry one less. Where none is left in front of an entry that is not told, the other end may have had none as it read it. Who is
-  gone altogether is not counted, so that a channel may be told again that had not ended; that does nothing.
-- It is looked behind each line, for who comes by the next line of a piece made the channel anew, and told behind the whole piece, with the row
-  as it is then: what is put out carries a count, by which the other end takes it as written behind all that it has written in the piece.
+- An entry is told once what is set in its channel was told behind it. Those of a burst begin as told, for what is set comes behind them.
+  They are told no more once the other end joins or sets something of the channel: that was not in what was told.
+- Which channels are looked at: behind a line that takes somebody out at the other end, those that it takes them out of there, and those to
+  which they have come by the log, for there they never come; behind a line by which two go who took one name, all, for the other end does
+  not write who goes. No channel ends there by another line.
+- Whether one may have ended: its members are counted as they are here, and the log is walked from its end to its front. In front of an Out
+  there was one member more, in front of an entry one less. Where none was in front of an entry that is not told, the other end may have had
+  none as it read of it. Who is gone altogether is not counted, so that a channel may be told again that had not ended: by that at most
+  something stays set, at both ends, that the other end takes off at that moment.
+- It is looked behind each line, for who comes by the next line of the piece made the channel anew. It is told behind the whole piece, with
+  the row as it is then: what is put out carries a count, and the other end takes it as written behind all of its piece.
 """
 
+import collections
 from dataclasses import replace
 from typing import NamedTuple
 
@@ -133,8 +136,8 @@ def piece_read(lines, heard):
 
 
 def meant(end, side, line, is_set):
-    """What the server is asked for upon a line that came, the end behind it, and the channels that are looked at. `side` is what the server knows
-    of the link."""
+    """What the server is asked for upon a line that came, the end behind it, and the channels that are looked at. `side` is what the server
+    knows of the link."""
     writer, reader = Reader(end.base, side), Reader(end.here, side)
     told = tale(line, writer, is_set)
     base, log, became = end.base, end.log, []
@@ -143,7 +146,7 @@ def meant(end, side, line, is_set):
         base = done(base, effect)
         became.append(left)
     behind = end._replace(base=base, log=untold(log, told.effects), here=all_done(end.here, became))
-    names = came_to(log) if collides(told.effects, became) else taken_out(end.base, told.effects)
+    names = came_to(log) if collides(told.effects, became) else taken_out(end.base, told.effects) | never_come_to(end.log, log)
     return asked(writer, reader, told, became), behind, names
 
 
@@ -195,6 +198,16 @@ def taken_out(room, effects):
     return frozenset(out | {name for name, channel in room.channels.items() if gone & set(channel.members)})
 
 
+def never_come_to(log, behind):
+    """The channels of entries that a log has no more behind a line.
+
+        b.net writes    :bo JOIN #c\7o, :bo TOPIC #c :hello, :bea JOIN #c
+        a.net writes    :a.net KILL bo              by it bea makes #c, and no topic is set
+    """
+    before, left = (collections.Counter(entry.channel for _, entry in each if isinstance(entry, Member)) for each in (log, behind))
+    return frozenset(before - left)
+
+
 def looked(end, names):
     """An end that has looked at channels: which of them are told again behind the piece."""
     there = names & came_to(end.log) & set(end.here.channels)
@@ -202,7 +215,7 @@ def looked(end, names):
 
 
 def may_have_ended(end, name):
-    """Whether the other end may have had no member of a channel as it read that somebody has come there, who has not been told since what is set.
+    """Whether the other end may have had no member of a channel as it read that somebody came who has not been told what is set.
 
         b.net's log     bo joins #c, bo is out of #c, bea joins #c, and in #c is bea: none in front of her, so it may have ended
         b.net's log     the same, and in #c are bea and al: one in front of bea, two in front of bo's going, one in front of bo

@@ -3,9 +3,9 @@
 It sees what comes by a link before the server does, and what the server puts out on links behind it. Of the server it reads who the other end of
 a link is, and the numbers of servers and the links that they are behind; its room it has from the ends of its links.
 
-Behind each line that came it looks which channels may have ended at the other end, and behind the whole piece it tells those again on that link
-alone, of itself: its server is not asked, and nothing changes there (ends.py). Between the two the base behind the log is not the server's room, for
-in the one the channel has ended; at rest it is.
+Behind each line that came it looks which channels may have ended at the other end, and behind the whole piece it tells those again, with
+what is set then, on that link alone: its server is not asked, and nothing changes here (ends.py). Until that is read the end at which the
+channel has ended has it without what was set, and the base behind its log has it with that; at rest the two are the same.
 """
 
 from effects import all_done
@@ -159,8 +159,8 @@ class Layer:
         return [link for link, end in sorted(self.ends.items()) if end.greeted and end.here != room]
 
     def faults_at_rest(self):
-        """What is wrong inside where nothing is on its way: the base behind the log is to be the server's room, so that what may have ended at the
-        other end was told again. Before that it may lack the row of such a channel."""
+        """What is wrong inside where nothing is on its way: the base behind the log is to be the server's room. Before that a channel that has
+        ended here has what was set in the one, and is not told again yet in the other."""
         room = room_of(self.server)
         return [link for link, end in sorted(self.ends.items()) if end.greeted and
                 all_done(end.base, [effect for _, effect in end.log]) != room]

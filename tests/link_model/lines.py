@@ -5,11 +5,11 @@ of that: the line as it came wherever nothing has become of it, else the line wi
 where no line of its form does it, a line or a deed by the server at the other end.
 """
 
-from dataclasses import dataclass, replace
+from dataclasses import dataclass
 from typing import NamedTuple
 
-from effects import (HIDDEN, KEY, LIMIT, NO_CHANNEL, NOTHING, OPERATOR, SPELLING, TOPIC, VOICE, Come, Go, Join, Named, Out, Own, Person, Rename,
-                     Room, Set, Spoken, ban, flag, in_order, rank, value_at)
+from effects import (HIDDEN, KEY, LIMIT, NO_CHANNEL, NOTHING, OPERATOR, SPELLING, TOPIC, VOICE, Come, Go, Join, Named, Out, Own, Person,
+                     Rename, Room, Set, Spoken, ban, flag, in_order, rank, value_at)
 from servers import Change, changes_of, changes_written, fold, is_server, parse, written
 
 MARK = b"\x07o"             # behind the channel in a JOIN that makes an operator
@@ -376,8 +376,8 @@ def raise_asked(writer, reader, tale, join):
 
 
 def joins_plainly(writer, reader, join):
-    """Whether a JOIN does it: the channel is there on both sides or on neither. Else an operator would come without being shown as one, and the
-    spelling stay as it is.
+    """Whether a JOIN does it: the channel is there on both sides or on neither. Else an operator would come without being shown as one, and
+    the spelling stay as it is.
 
         a.net writes    :al JOIN #c\\7o         b.net writes    :bo JOIN #C\\7o
         a.net is given  :b.net NJOIN #C :@bo
@@ -389,8 +389,8 @@ def joins_plainly(writer, reader, join):
 
 
 def spells_alone(reader, join):
-    """Whether nobody comes by an NJOIN, and its spelling is the greater one: a server takes one with somebody who comes alone. So it is where a
-    channel is told again.
+    """Whether nobody comes by an NJOIN, and its spelling is the greater one: a server takes it with somebody who comes, and so else it is a
+    deed. That is where a channel is told again.
 
         b.net has       #C, which bo has made anew with :bo JOIN #C; b.net was told
         a.net writes    :a.net NJOIN #c :al, :a.net MODE #c +n

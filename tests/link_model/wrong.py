@@ -73,6 +73,7 @@ WRONG = {
     "looked behind each line": (layer, "looked", looked_at_last),
     "looked behind a collision": (ends, "collides", lambda effects, became: False),
     "looked behind who goes": (ends, "taken_out", with_outs_alone),
+    "looked where they never come": (ends, "never_come_to", lambda log, behind: frozenset()),
     "entries of who makes": (layer, "entries", but_of_makers),
     "entries of NJOIN": (layer, "entries", of_one),
     "entries of a burst": (layer, "entries", but_of_bursts),
