@@ -10,7 +10,6 @@ One thing the rules leave different, the row of a channel that ends at one end a
 without what was set; at the second it is as it was, and that end tells it again (ends.py). So no end keeps a row of what has ended, nor has
 to know it before the event by which it ends.
 
-
 The examples are of the end a.net, whose people are al and ann; bo and bea are at b.net.
 """
 

@@ -150,6 +150,15 @@ def meant(end, side, line, is_set):
     return asked(writer, reader, told, became), behind, names
 
 
+def is_echo(link, arrival, command):
+    """Whether a line answers a collision on the link by which it came: the other end kills them too, as it reads our NICK.
+
+        a.net writes    :al NICK zed            b.net writes    :bo NICK zed
+        a.net's server  :a.net KILL bo, :a.net KILL zed     on all links; to b.net they are not put out
+    """
+    return link == arrival and command == b"KILL"
+
+
 # Channels that are told again.
 
 
@@ -201,7 +210,7 @@ def taken_out(room, effects):
 def never_come_to(log, behind):
     """The channels of entries that a log has no more behind a line.
 
-        b.net writes    :bo JOIN #c\7o, :bo TOPIC #c :hello, :bea JOIN #c
+        b.net writes    :bo JOIN #c\\7o, :bo TOPIC #c :hello, :bea JOIN #c
         a.net writes    :a.net KILL bo              by it bea makes #c, and no topic is set
     """
     before, left = (collections.Counter(entry.channel for _, entry in each if isinstance(entry, Member)) for each in (log, behind))
@@ -239,12 +248,3 @@ def told_again(end, side, own, most):
             end = with_line(end, line, tale(line, Reader(end.here, own), False).effects, False, most)
         end = end._replace(log=with_told(end.log, {name} if lines else (), True))
     return end._replace(again=frozenset())
-
-
-def is_echo(link, arrival, command):
-    """Whether a line answers a collision on the link by which it came: the other end kills them too, as it reads our NICK.
-
-        a.net writes    :al NICK zed            b.net writes    :bo NICK zed
-        a.net's server  :a.net KILL bo, :a.net KILL zed     on all links; to b.net they are not put out
-    """
-    return link == arrival and command == b"KILL"
