@@ -1,8 +1,8 @@
 #!/usr/bin/env python3
 """A link is a document that two ends edit: a model of the layer that makes the two agree, tried in every order and by chance.
 
-    python3 tests/link_model.py [--what all|diamond|orders|scripts|seen|rest|unchanged] [--servers N] [--things N] [--tries N] [--seed S]
-                                [--calm] [--cuts] [--piece N] [--count-within N] [--plain] [--bound N] [--without RULE] [--show N]
+    python3 tests/link_model.py [--what all|seldom|diamond|orders|scripts|seen|rest|unchanged] [--servers N] [--things N] [--tries N]
+                                [--seed S] [--calm] [--cuts] [--piece N] [--count-within N] [--plain] [--bound N] [--without RULE] [--show N]
 
 Not part of the gate, and of no program: a model, from which the definitions are taken. Servers are those of hostile_links/model.py, which
 know nothing of it. At each end of a link stands a layer: it keeps a log of what its server put out there and the other end has not counted as
@@ -10,10 +10,16 @@ read, takes each line that comes as the effects that it tells, and gives the ser
     link_model/effects.py       what a line tells, and what that does to a room
     link_model/crossing.py      the rules: what becomes of an effect that crossed others
     link_model/lines.py         lines as effects, and effects as what the server is asked for
-    link_model/ends.py          one end of a link: its log, pieces and counts
+    link_model/ends.py          one end of a link: its log, pieces and counts, and the channels that it tells again
     link_model/layer.py         the ends of all links of a server, around it
 
-    diamond     two ends do something each in one room, one effect or a list: behind what both did they have one room again;
+A channel that ended at one end, while somebody came to it at the other, is made anew at the first without what was set, and the other end
+tells it again, as a burst does. So each end has its server's room at any time, and the base behind its log is that room at rest, which is
+looked at there.
+
+    seldom      scripts by hand, each of what a rule is for: at rest as random scripts;
+    diamond     two ends do something each in one room, one effect or a list: behind what both did they have one room again, but for the
+                rows of channels that are told again;
     orders      each of five people, of whom two come, does things in turn at two or three servers in a line, or while two servers are linked,
                 and pieces are delivered one at a time: *every* order of both is walked, up to a bound of states;
     scripts     random scripts on two to five servers in a tree, where people act on each other, pieces are delivered, and links cut and made at any
@@ -22,12 +28,14 @@ read, takes each line that comes as the effects that it tells, and gives the ser
                 what is out of place;
     rest        scripts with everything delivered in between: what a server without the layer is given, and does something by, is byte for byte
                 what one with it is given, and people see the same;
-    unchanged   any line that comes where the log is empty is given as it came.
+    unchanged   any line that comes where the log is empty is given as it came, but for an NJOIN by which nobody comes and the spelling is
+                greater: a channel is told again.
 
-Of scripts and orders it says what was tried and what went wrong: servers that differ at rest, a link that is closed, a room that is not
-the base behind the log. `--piece` is how many lines a piece has at most, `--count-within` how many pieces are read before a count
-goes out alone; `--plain` is servers without the layer. `--without RULE` takes a rule out, and `--without each` each in turn. The status
-is 1 where something went wrong; with `--without each`, where some rule is not missed.
+Of scripts and orders it says what was tried and what went wrong: servers that differ at rest, a link that is closed, an end that has
+another room than its server, at rest a base that is not that room behind the log. `--piece` is how many lines a piece has at most,
+`--count-within` how many pieces are read before a count goes out alone; `--plain` is servers without the layer. `--without RULE` takes a
+rule out, and `--without each` each in turn. The status is 1 where something went wrong; with `--without each`, where some rule is not
+missed.
 """
 
 import argparse
@@ -43,6 +51,7 @@ import at_rest  # noqa: E402
 import diamond  # noqa: E402
 import orders   # noqa: E402
 import scripts  # noqa: E402
+import seldom   # noqa: E402
 import wrong    # noqa: E402
 from ends import MOST   # noqa: E402
 from layer import Bare, Layer   # noqa: E402
@@ -108,15 +117,13 @@ def orders_tried(given, count, things, tries, bound):
     return told(title, faults, given, began)
 
 
+def try_seldom(given):
+    began, faults = time.time(), seldom.tried(lambda most: settings(given, most))
+    return told(f"scripts that are seldom: {len(seldom.SELDOM)}", faults, given, began)
+
+
 def try_scripts(given):
-    return lost_apart(given) + sum(scripts_tried(given, *each) for each in chosen_scripts(given, SCRIPTS))
-
-
-def lost_apart(given):
-    """The script in which a cut between servers that are lost together closes a link."""
-    began, (count, acts) = time.time(), scripts.LOST_APART
-    fault = scripts.fault_of(NAMES[:count], acts, settings(given, 1))
-    return told("script of servers that are lost together", [(fault,)] if fault else [], given, began)
+    return sum(scripts_tried(given, *each) for each in chosen_scripts(given, SCRIPTS))
 
 
 def try_seen(given):
@@ -166,7 +173,8 @@ def rest_tried(given, count, length, tries, calm):
     return told(f"at rest on {count} servers: {tries} scripts, {lines} lines", faults, given, began)
 
 
-TRIES = {"diamond": try_diamond, "orders": try_orders, "scripts": try_scripts, "seen": try_seen, "rest": try_rest, "unchanged": try_unchanged}
+TRIES = {"seldom": try_seldom, "diamond": try_diamond, "orders": try_orders, "scripts": try_scripts, "seen": try_seen, "rest": try_rest,
+         "unchanged": try_unchanged}
 
 
 def tried(given):

@@ -1,11 +1,11 @@
-"""Where nothing overlaps: servers with a layer are given the lines that servers without one are given, byte for byte, and people see the same; and
-where a log is empty, any line is given as it came, be it one that no server writes."""
+"""Where nothing overlaps: servers with a layer are given the lines that servers without one are given, byte for byte, and people see the same;
+and where a log is empty, any line is given as it came, be it one that no server writes, but for an NJOIN that tells a greater spelling alone."""
 
 import random
 
 from ends import meant
 from layer import Bare, Layer
-from lines import Line
+from lines import Line, Spelling
 from net import Net
 from scripts import CHANNELS, FAULTS, MANY, MODES, may_link, played, script
 from servers import NAMES
@@ -77,6 +77,10 @@ def any_line(chance):
         b"MODE " + front + b" +i", b"SQUIT " + server + b" :x"])
 
 
+def spells(end, side, line):
+    return any(isinstance(item, Spelling) for item in meant(end, side, line, False)[0])
+
+
 def unchanged(number, count, length, lines):
     """So many lines at each end with an empty log, at the end of a script: how many there were, and those that are not given as they came."""
     chance, faults, tries = random.Random(number), [], 0
@@ -85,6 +89,6 @@ def unchanged(number, count, length, lines):
         for link, end in sorted(layer.ends.items()):
             for line in [any_line(chance) for _ in range(lines if end.greeted else 0)]:
                 tries += 1
-                if meant(end, layer.side(link), line, False)[0] != [Line(line)]:
+                if meant(end, layer.side(link), line, False)[0] != [Line(line)] and not spells(end, layer.side(link), line):
                     faults.append((number, line))
     return tries, faults

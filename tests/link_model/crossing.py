@@ -2,16 +2,20 @@
 
 Two ends have the same room; each does something, and then reads what the other did. `crossed(room, theirs, ours)` is what becomes of their
 effect behind ours, so that both rooms are the same again: behind ours and what becomes of theirs, and behind theirs and what becomes of
-ours. Both were made in the same room, and what is a user's own to do comes from one side: no two NICK of one user cross, and no two JOIN of one
-user to one channel. Of one effect one is left, or nothing. Of the room there is read what a place has, who is in a channel that somebody
-leaves, and its row.
+ours. Both were made in the same room, and what is a user's own to do comes from one side: no two NICK of one user cross, and no two JOIN of
+one user to one channel. Of one effect one is left, or nothing. Of the room there is read what a place has, and who is in a channel that
+somebody leaves.
+
+One thing the rules leave different, the row of a channel that ends at one end and not at the other. At the first, who comes makes it anew,
+without what was set; at the second it is as it was, and that end tells it again (ends.py). So no end keeps a row of what has ended, nor has
+to know it before the event by which it ends.
 
 The examples are of the end a.net, whose people are al and ann; bo and bea are at b.net.
 """
 
 from dataclasses import replace
 
-from effects import (NOTHING, SPELLING, Come, Go, Join, Named, Out, Own, Rename, Set, Spoken, channel_of, done, in_order, is_flag, raised, rank,
+from effects import (NOTHING, SPELLING, Come, Go, Join, Member, Named, Out, Own, Rename, Set, Spoken, channel_of, done, is_flag, rank,
                      taken_by, with_names)
 
 
@@ -64,7 +68,7 @@ def gone_dropped(theirs, ours):
     match theirs:
         case Rename(nick, _, _) | Own(nick, _) | Named(nick):
             return NOTHING if is_out(ours, nick, None) else theirs
-        case Out(nick, channel):
+        case Out(nick, channel) | Member(nick, channel, _):
             return NOTHING if is_out(ours, nick, channel) else theirs
         case Go(nicks):
             return Go(frozenset(nick for nick in nicks if not is_out(ours, nick, None)))
@@ -82,21 +86,17 @@ def is_out(ours, nick, channel):
 
 
 def in_ended_channel(room, theirs, ours):
-    """Where the channel has ended here, who comes brings it back as it was; what else is for it is for nobody.
+    """Where the channel has ended here, who comes makes it anew, without what was set; what else is for it is for nobody.
 
-        a.net writes    :al PART #c :bye        b.net writes    :bo JOIN #c
-        a.net is given  :b.net NJOIN #c :bo, :b.net MODE #c +ntk x, :b.net TOPIC #c :what it was
+        a.net writes    :al PART #c :bye        b.net writes    :bo JOIN #c, :bo TOPIC #c :hello
+        a.net is given  :b.net NJOIN #c :bo, :bo TOPIC #c :hello
+
+        a.net writes    :al PART #c :bye        b.net writes    :b.net MODE #c +k x
+        a.net is given  nothing
     """
-    channel = channel_of(theirs)
-    if isinstance(theirs, Join) and theirs.members:
-        return replace(theirs, values=in_order(raised(row_back(room, ours, channel), theirs.values)))
-    is_there = channel in room.channels and not ends(room, ours, channel)
-    return NOTHING if isinstance(theirs, (Join, Set, Spoken)) and not is_there else theirs
-
-
-def row_back(room, ours, channel):
-    """The row of a channel that ends with ours."""
-    return room.channels[channel].row if ends(room, ours, channel) else {}
+    if not isinstance(theirs, (Join, Set, Spoken)) or isinstance(theirs, Join) and theirs.members:
+        return theirs
+    return theirs if theirs.channel in room.channels and not ends(room, ours, theirs.channel) else NOTHING
 
 
 def ends(room, ours, channel):

@@ -1,8 +1,11 @@
-"""The diamond: two ends did something each in one room; behind what both did they have one room again. Tried of pairs of effects and of lists."""
+"""The diamond: two ends did something each in one room; behind what both did they have one room again, but for the rows of channels that ended
+on one of the two ways, or were made there by somebody else: those are told again (ends.py). Tried of pairs of effects and of lists."""
+
+import collections
 
 from crossing import crossed, related, through
 from effects import (EMPTY, HIDDEN, KEY, LIMIT, NOTHING, OPERATOR, SPELLING, TOPIC, VOICE, Come, Go, Join, Named, Out, Own, Person,
-                     Rename, Set, Spoken, all_done, ban, done, flag, in_order, rank, value_at)
+                     Rename, Room, Set, Spoken, all_done, ban, done, flag, in_order, rank, value_at)
 from lost import lost, taken_back
 
 SIDES = [b"a.net", b"b.net"]
@@ -107,10 +110,31 @@ def needs_what_is_related(room, theirs, ours):
 
 
 def meet(room, theirs, ours, theirs_behind, ours_behind):
-    """Whether both ways come to one room, by effects that are possible there."""
+    """Whether both ways come to one room, but for rows that are told again, by effects that are possible there."""
     one, other = all_done(room, ours), all_done(room, theirs)
+    names = ended_by(room, [*ours, *theirs_behind]) | ended_by(room, [*theirs, *ours_behind])
+    names |= set(comers(theirs) - comers(theirs_behind)) | set(comers(ours) - comers(ours_behind))
     return (all_possible(one, theirs_behind) and all_possible(other, ours_behind)
-            and all_done(one, theirs_behind) == all_done(other, ours_behind))
+            and but_rows(all_done(one, theirs_behind), names) == but_rows(all_done(other, ours_behind), names))
+
+
+def ended_by(room, effects):
+    """The channels that end by effects, be they made anew or not."""
+    ended = set()
+    for effect in effects:
+        behind = done(room, effect)
+        ended, room = ended | (set(room.channels) - set(behind.channels)), behind
+    return ended
+
+
+def comers(effects):
+    """How many come to each channel."""
+    return collections.Counter(effect.channel for effect in effects if isinstance(effect, Join) for _ in effect.members)
+
+
+def but_rows(room, names):
+    """A room without the rows of some channels."""
+    return Room(room.people, {name: channel._replace(row={}) if name in names else channel for name, channel in room.channels.items()})
 
 
 def some_room(chance):

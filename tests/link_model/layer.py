@@ -2,10 +2,14 @@
 
 It sees what comes by a link before the server does, and what the server puts out on links behind it. Of the server it reads who the other end of
 a link is, and the numbers of servers and the links that they are behind; its room it has from the ends of its links.
+
+Behind each line that came it looks which channels may have ended at the other end, and behind the whole piece it tells those again, with
+what is set then, on that link alone: its server is not asked, and nothing changes here (ends.py). Until that is read the end at which the
+channel has ended has it without what was set, and the base behind its log has it with that; at rest the two are the same.
 """
 
 from effects import all_done
-from ends import MOST, NEW, counted, flushed, is_echo, meant, piece_read, with_line
+from ends import MOST, NEW, counted, entries, flushed, is_echo, looked, meant, piece_read, told_again, with_line
 from lines import Kick, Line, Modes, Reader, Side, Spelling, Topic, tale
 from servers import copied, kicked_by_server, modes_by_server, parse, room_of, spelled_by_server, topic_by_server
 
@@ -54,6 +58,7 @@ class Layer:
             if link in self.ends:
                 put += self.line(link, line, piece.is_set)
         if link in self.ends and piece.lines:
+            self.tell_again(link)
             self.ends[link] = self.ends[link]._replace(read=self.ends[link].read + 1)
         return put + self.flush()
 
@@ -66,12 +71,17 @@ class Layer:
 
     def line(self, link, line, is_set):
         """The server is asked for what a line means here."""
-        items, self.ends[link] = meant(self.ends[link], self.side(link), line, is_set)
+        items, self.ends[link], names = meant(self.ends[link], self.side(link), line, is_set)
         put = []
         for item in items:
             self.give(link, item)
             put += self.taken(link, not isinstance(item, Line))
+        if link in self.ends:
+            self.ends[link] = looked(self.ends[link], names)
         return put
+
+    def tell_again(self, link):
+        self.ends[link] = told_again(self.ends[link], self.side(link), self.own(), self.most)
 
     def side(self, link):
         homes = {row.token: name for name, row in self.server.known.items() if row.link == link}
@@ -120,8 +130,8 @@ class Layer:
             return [("link", link, (line,))]
         if not is_echo(link, arrival, command):
             end = self.ends[link]
-            effects = tale(line, Reader(end.here, self.own()), is_set).effects
-            self.ends[link] = with_line(end, line, effects, is_set, self.most)
+            told = tale(line, Reader(end.here, self.own()), is_set)
+            self.ends[link] = with_line(end, line, [*told.effects, *entries(told, not end.greeted)], is_set, self.most)
         return []
 
     def event_over(self):
@@ -144,10 +154,16 @@ class Layer:
         return [("link", link, (b"COUNT %d 0" % end.read,))]
 
     def faults(self):
-        """What is wrong inside: the base behind the log is to be the server's room."""
+        """What is wrong inside: each end is to have the server's room."""
+        room = room_of(self.server)
+        return [link for link, end in sorted(self.ends.items()) if end.greeted and end.here != room]
+
+    def faults_at_rest(self):
+        """What is wrong inside where nothing is on its way: the base behind the log is to be the server's room. Before that a channel that has
+        ended here has what was set in the one, and is not told again yet in the other."""
         room = room_of(self.server)
         return [link for link, end in sorted(self.ends.items()) if end.greeted and
-                not (end.here == room and all_done(end.base, [effect for _, effect in end.log]) == room)]
+                all_done(end.base, [effect for _, effect in end.log]) != room]
 
 
 class Bare(Layer):
@@ -172,4 +188,7 @@ class Bare(Layer):
         return []
 
     def faults(self):
+        return []
+
+    def faults_at_rest(self):
         return []

@@ -5,17 +5,18 @@ of that: the line as it came wherever nothing has become of it, else the line wi
 where no line of its form does it, a line or a deed by the server at the other end.
 """
 
-from dataclasses import dataclass, replace
+from dataclasses import dataclass
 from typing import NamedTuple
 
-from effects import (HIDDEN, KEY, LIMIT, NOTHING, OPERATOR, SPELLING, TOPIC, VOICE, Come, Go, Join, Named, Out, Own, Person, Rename,
-                     Room, Set, Spoken, ban, done, flag, in_order, rank, value_at)
+from effects import (HIDDEN, KEY, LIMIT, NO_CHANNEL, NOTHING, OPERATOR, SPELLING, TOPIC, VOICE, Come, Go, Join, Named, Out, Own, Person,
+                     Rename, Room, Set, Spoken, ban, flag, in_order, rank, value_at)
 from servers import Change, changes_of, changes_written, fold, is_server, parse, written
 
 MARK = b"\x07o"             # behind the channel in a JOIN that makes an operator
 COLLISION = b"Nick collision"
-LETTERS = b"imnpstkl"
-TAKERS = 3                  # letters with a word in one MODE
+LETTERS = b"imnpstkl"       # of a MODE that tells what is set, in this order
+MEMBERS = 10                # of one NJOIN
+BANS = 3                    # of one MODE
 IS_SET = b"+"               # the value of a flag of a channel that is set
 
 
@@ -347,15 +348,15 @@ def join_asked(writer, reader, tale, became):
     join = became[0]
     if join == NOTHING or not (join.members or join.values):
         return []
-    server = doer(reader, tale)
     if tale.command in (b"MODE", b"TOPIC"):
         return raise_asked(writer, reader, tale, join)
-    if tale.command == b"JOIN" and joins_plainly(writer, reader, tale, join):
+    if tale.command == b"JOIN" and joins_plainly(writer, reader, join):
         return put_right(reader, tale, join.members[0][0], {})
-    if tale.command == b"NJOIN" and join.members and join.values == tale.effects[0].values and brings_just(reader, tale, join):
+    if spells_alone(reader, join):
+        return [Spelling(doer(reader, tale), dict(join.values)[SPELLING])]
+    if tale.command == b"NJOIN" and join.members and brings_just(reader, tale, join):
         return [Line(tale.line)]
-    members = replace(join, values=((SPELLING, dict(join.values)[SPELLING]),))
-    return members_asked(reader, server, join) + row_asked(Reader(done(reader.room, members), reader.side), server, join)
+    return members_asked(reader, doer(reader, tale), join)
 
 
 def raise_asked(writer, reader, tale, join):
@@ -374,9 +375,9 @@ def raise_asked(writer, reader, tale, join):
     return [Modes(tale.prefix, join.channel, tuple(changes))]
 
 
-def joins_plainly(writer, reader, tale, join):
-    """Whether a JOIN does it: the channel is there on both sides or on neither, and no row comes back. Else an operator would come without
-    being shown as one, and the spelling stay as it is.
+def joins_plainly(writer, reader, join):
+    """Whether a JOIN does it: the channel is there on both sides or on neither. Else an operator would come without being shown as one, and
+    the spelling stay as it is.
 
         a.net writes    :al JOIN #c\\7o         b.net writes    :bo JOIN #C\\7o
         a.net is given  :b.net NJOIN #C :@bo
@@ -384,7 +385,18 @@ def joins_plainly(writer, reader, tale, join):
     name = dict(join.values)[SPELLING]
     (was_there, did_raise), (is_there, does_raise) = (
         (join.channel in each.room.channels, each.raises(join.channel, SPELLING, name)) for each in (writer, reader))
-    return bool(join.members) and join.values == tale.effects[0].values and (was_there, did_raise) == (is_there, does_raise)
+    return bool(join.members) and (was_there, did_raise) == (is_there, does_raise)
+
+
+def spells_alone(reader, join):
+    """Whether nobody comes by an NJOIN, and its spelling is the greater one: a server takes it with somebody who comes, and so else it is a
+    deed. That is where a channel is told again.
+
+        b.net has       #C, which bo has made anew with :bo JOIN #C; b.net was told
+        a.net writes    :a.net NJOIN #c :al, :a.net MODE #c +n
+    """
+    there = reader.room.channels.get(join.channel, NO_CHANNEL).members
+    return reader.raises(join.channel, SPELLING, dict(join.values)[SPELLING]) and all(nick in there for nick, _ in join.members)
 
 
 def brings_just(reader, tale, join):
@@ -395,31 +407,47 @@ def brings_just(reader, tale, join):
 
 
 def members_asked(reader, server, join):
-    """Members come by NJOIN, which takes the greater spelling; one without members is a deed."""
-    name = dict(join.values)[SPELLING]
-    if join.members:
-        members = [marked(flags, reader.room.people[nick].spelled) for nick, flags in join.members]
-        return [Line(written(server, b"NJOIN", [name], b",".join(members)))]
-    return [Spelling(server, name)] if reader.raises(join.channel, SPELLING, name) else []
+    """Members come by NJOIN, which takes the greater spelling."""
+    if not join.members:
+        return []
+    return [Line(njoin(reader.room, server, dict(join.values)[SPELLING], join.members))]
+
+
+def njoin(room, server, name, members):
+    return written(server, b"NJOIN", [name], b",".join(marked(flags, room.people[nick].spelled) for nick, flags in members))
 
 
 def marked(flags, spelled):
     return b"@" * (OPERATOR in flags) + b"+" * (VOICE in flags) + spelled
 
 
-def row_asked(reader, server, join):
-    """A row comes back as a burst tells it, or by deeds, where nobody is left of those who brought it back."""
-    values = {place: value for place, value in join.values if place != SPELLING and reader.raises(join.channel, place, value)}
-    name = value_at(reader.room, join.channel, SPELLING)
-    letters = [change_of(place, value) for place, value in values.items() if place != TOPIC]
-    once = sorted((change for change in letters if change.letter != b"b"), key=lambda change: LETTERS.index(change.letter))
-    bans = [change for change in letters if change.letter == b"b"]
-    groups = [once] * bool(once) + [bans[first:first + TAKERS] for first in range(0, len(bans), TAKERS)]
-    if reader.has_far(join.channel):
-        asked_for = [Line(written(server, b"MODE", [name, *changes_written(changes)])) for changes in groups]
-        return asked_for + ([Line(written(server, b"TOPIC", [name], values[TOPIC]))] if TOPIC in values else [])
-    asked_for = [Modes(server, join.channel, tuple(changes)) for changes in groups]
-    return asked_for + ([Topic(server, join.channel, values[TOPIC])] if TOPIC in values else [])
+ASKED = {Come: come_asked, Rename: rename_asked, Go: go_asked, Own: own_asked, Out: out_asked, Named: text_asked, Spoken: text_asked,
+         Set: set_asked, Join: join_asked}
+
+
+# What a server tells of a channel.
+
+
+def channel_lines(teller, server, channel):
+    """A channel as a burst tells it, but for members behind the link; no lines if there are no others."""
+    there = teller.room.channels[channel]
+    name, near = there.row[SPELLING], [each for each in sorted(there.members.items()) if not teller.is_far(each[0])]
+    if not near:
+        return []
+    lines = [njoin(teller.room, server, name, group) for group in groups(near, MEMBERS)]
+    lines += [written(server, b"MODE", [name, *changes_written(changes)]) for changes in row_changes(there.row)]
+    return lines + ([written(server, b"TOPIC", [name], there.row[TOPIC])] if TOPIC in there.row else [])
+
+
+def row_changes(row):
+    """The changes that make a row, by MODE: all letters but for bans, then the bans."""
+    changes = [change_of(place, value) for place, value in sorted(row.items()) if place not in (SPELLING, TOPIC)]
+    once = sorted((change for change in changes if change.letter != b"b"), key=lambda change: LETTERS.index(change.letter))
+    return [once] * bool(once) + groups([change for change in changes if change.letter == b"b"], BANS)
+
+
+def groups(items, most):
+    return [items[first:first + most] for first in range(0, len(items), most)]
 
 
 def change_of(place, value):
@@ -431,7 +459,3 @@ def change_of(place, value):
     if place == LIMIT:
         return Change(b"+", b"l", b"%d" % value)
     return Change(b"+", b"b", value) if place[0] == "ban" else Change(b"+", place[0].encode(), None)
-
-
-ASKED = {Come: come_asked, Rename: rename_asked, Go: go_asked, Own: own_asked, Out: out_asked, Named: text_asked, Spoken: text_asked,
-         Set: set_asked, Join: join_asked}
