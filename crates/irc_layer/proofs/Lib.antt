@@ -1,10 +1,8 @@
 pub mod Connecting
-pub mod Counting
 pub mod Examples
 pub mod Following
 pub mod Hearing
 pub mod Kept
-pub mod Noted
 pub mod Numbers
 pub mod Passing
 pub mod Setting

@@ -14,7 +14,6 @@ use Rattle.irc_server.specs.declared.event.Event.{Event}
 use Rattle.irc_server.specs.declared.event.Event.TheVariants.{Connect, Line, Gone, LinkUp, LinkLine}
 use Rattle.irc_server.specs.declared.event.Event.TheVariants.{LinkDown}
 use Rattle.irc_layer.specs.declared.end.End.{End}
-use Rattle.irc_layer.specs.Uncounted.{left_unread, nothing_uncounted}
 
 -- the end of each link that is there
 abbrev pub Ends : Type 0
@@ -37,21 +36,15 @@ is_plain plain name = list_any (λ one. same one name) plain
 
 -- The end of a link that begins: of a server that calls this one, or is called.
 abbrev pub new_end : Option (List ℕ) → List (List ℕ) → End
-new_end None plain =
-    record { link = called; left = 0; log = []; uncounted = nothing_uncounted }
-new_end (Some name) plain = record {
-  link = calling (not (is_plain plain name));
-  left = 0;
-  log = [];
-  uncounted = nothing_uncounted;
-}
+new_end None plain = record { link = called; left = 0; log = [] }
+new_end (Some name) plain =
+    record { link = calling (not (is_plain plain name)); left = 0; log = [] }
 
--- an end that has heard a line: what the other end says to have read leaves the log, and is counted
+-- an end that has heard a line: what the other end says to have read leaves the log
 abbrev pub end_hearing : List ℕ → End → End
 end_hearing line end = record end {
   link = after_hearing line end.link;
   log = unread (after_hearing line end.link).pieces.counts.taken end.log;
-  uncounted = left_unread (after_hearing line end.link).pieces.counts end.uncounted;
 }
 
 -- an end whose other end has named itself, if it has

@@ -8,7 +8,6 @@ use Rattle.irc_layer.specs.declared.end.End.{End}
 use Rattle.irc_layer.specs.Ends.{Ends}
 use Rattle.irc_layer.specs.Layers.{by_event, by_setting}
 use Rattle.irc_layer.specs.Putting.{all_put}
-use Rattle.irc_layer.specs.Uncounted.{nothing_uncounted}
 
 -- an end that counts pieces and has met the other one: it has read so many pieces, and told so many
 abbrev pub counting : (read told : ℕ) → End
@@ -29,7 +28,6 @@ counting read told = record {
   };
   left = 0;
   log = [];
-  uncounted = nothing_uncounted;
 }
 
 -- links 3 and 4 are there, each with such an end

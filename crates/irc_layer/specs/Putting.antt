@@ -43,7 +43,6 @@ use Rattle.irc_layer.specs.declared.end.End.{End}
 use Rattle.irc_layer.specs.declared.putting.NextLine.{NextLine}
 use Rattle.irc_layer.specs.declared.putting.NextLine.TheVariants.{Another, Elsewhere, Squit}
 use Rattle.irc_layer.specs.Ends.{change_end, with_end, Ends}
-use Rattle.irc_layer.specs.Uncounted.{piece_begun, with_bytes}
 
 -- a line without its CR LF
 abbrev pub body : List ℕ → List ℕ
@@ -112,11 +111,7 @@ count_before mark link lines end =
 
 abbrev pub with_begun : ℕ → End → End
 with_begun lines end =
-    if nat_eq end.left 0 then record end {
-      link = after_piece_out end.link;
-      left = lines;
-      uncounted = piece_begun end.uncounted;
-    } else end
+    if nat_eq end.left 0 then record end { link = after_piece_out end.link; left = lines } else end
 
 abbrev pub piece_out : Option Mark → ℕ → ℕ → List ℕ → End → List Sent
 piece_out mark link lines line end = count_before mark link lines end ++ line_on link line ∷ []
@@ -126,11 +121,10 @@ piece_out mark link lines line end = count_before mark link lines end ++ line_on
 abbrev pub with_room : List Entry → List Entry
 with_room log = if nat_le 1048576 (length log) then [] else log
 
--- a line of it is in the log from now on, by the number of its piece, and its bytes are uncounted
+-- a line of it is in the log from now on, by the number of its piece
 abbrev pub with_logged : List ℕ → End → End
 with_logged line end = record end {
   left = end.left - 1;
-  uncounted = with_bytes (length line) end.uncounted;
   log = put_out end.link.pieces.counts.sent (logged_of (body line)) (with_room end.log);
 }
 

@@ -11,7 +11,6 @@ ghost use Rattle.irc_layer.specs.Putting.{count_out, is_echo, is_kick_read, is_k
 ghost use Rattle.irc_layer.specs.Putting.{is_unspoken, line_out};
 ghost use Rattle.irc_layer.specs.Putting.{piece_out, with_begun, with_count_out, with_room};
 
-use crate::uncounted::Uncounted;
 use irc_batch::Batch;
 use irc_crossing::{Given, Log};
 use irc_line::{Line, parse};
@@ -33,8 +32,6 @@ pub(crate) struct End {
     pub left: u64,
     /// What it has put out, and the other end had not read when it wrote last.
     pub log: Log,
-    /// The bytes of that.
-    pub uncounted: Uncounted,
 }
 
 /// Why a server puts something out.
@@ -67,7 +64,6 @@ impl End {
             link,
             left: 0,
             log: Log::new(alloc),
-            uncounted: Uncounted::new(alloc),
         }
     }
 
@@ -81,7 +77,6 @@ impl End {
     {
         let heard = self.link.hear(line)?;
         self.log.count(self.link.taken());
-        self.uncounted.keep_last(self.link.unread());
         Ok(heard)
     }
 
@@ -148,7 +143,6 @@ impl End {
     {
         self.begin(mark, to, out)?;
         self.left = self.left.saturating_sub(1);
-        self.uncounted.add(line.len());
         self.make_room();
         self.log.put_out(self.link.sent(), body(line))?;
         out.put_on(to.link, line)
@@ -173,7 +167,6 @@ impl End {
             return Ok(());
         }
         self.left = to.lines;
-        self.uncounted.begin()?;
         let count = self.link.put_out_piece(to.lines, mark);
         put_count(to.link, count, out)
     }

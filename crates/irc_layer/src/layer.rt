@@ -12,12 +12,11 @@ ghost use Rattle.irc_burst_lines.specs.Loops.Telling.{told_member};
 ghost use Rattle.irc_layer.specs.Layers.{given_at, peer_of, state_of, BringsOne, Does, Gives};
 ghost use Rattle.irc_layer.specs.Layers.{GivesKill, GivesKills, HearsAll, HearsIf, Sets};
 ghost use Rattle.irc_layer.specs.Layers.{HearsOne, IsAround, IsRefusedBy, Passes, PassesOrNot};
-ghost use Rattle.irc_layer.specs.Layers.{is_heard, layer_view, Handles, IsConnectedIf, Shuts};
+ghost use Rattle.irc_layer.specs.Layers.{is_heard, Handles, IsConnectedIf, Shuts};
 ghost use Rattle.irc_layer.specs.Putting.{body, count_at, with_count_out};
 
 use crate::end::{Cause, End, body};
 use crate::holding::is_held;
-use crate::owing::Owing;
 use crate::putting::{Ends, begin, end, put_all};
 use irc_batch::{Batch, CloseReason};
 use irc_burst_lines::{kill_text, njoin_text};
@@ -46,7 +45,6 @@ pub struct Layer {
     plain: Vec<ServerName, Global>,
     /// What the server has put out by the event at hand.
     held: Batch,
-    owing: Owing,
     alloc: Global,
 }
 
@@ -61,7 +59,6 @@ impl Layer {
             ends: BTreeMap::new(alloc),
             plain,
             held: Batch::new(alloc),
-            owing: Owing::new(alloc),
             alloc,
         }
     }
@@ -110,30 +107,6 @@ impl Layer {
             Err(ServerFault::Memory | ServerFault::Failed) => Err(AllocError),
             Err(_) => Ok(false),
         }
-    }
-
-    /// Handles an event.
-    fn handle_event(&mut self, event: &Event, out: &mut Batch) -> Result<(), ServerFault>
-        ensures handled { Handles (state_of self.old out.old) event.now
-            (state_of self.new out.new) result }
-        ensures connected { OnOk result (IsConnectedBy self.old.server event.now out.old.outs
-            self.new.server out.new.outs) }
-        ensures refused { IfErr result (IsRefusal self.old.server event.now) }
-    {
-        if is_heard(&self.ends, event) {
-            self.hear_event(event, out)
-        } else {
-            self.pass(None, event, out)
-        }
-    }
-
-    /// What links owe behind an event.
-    fn note_owed(&mut self) -> Result<(), ServerFault>
-        ensures same { layer_view self.new ≡ layer_view self.old }
-        ensures memory { IfErr result (λ fault. is_out_of_memory fault ≡ true) }
-    {
-        self.owing.note(&self.ends)?;
-        Ok(())
     }
 
     /// A line of a link that has an end has come.
@@ -502,10 +475,10 @@ impl Machine for Layer {
     ghost dues = { never_due };
 
     fn handle(&mut self, event: &Event, out: &mut Batch) -> Result<(), ServerFault> {
-        self.owing.clear();
-        match self.handle_event(event, out) {
-            Ok(()) => self.note_owed(),
-            Err(fault) => Err(fault),
+        if is_heard(&self.ends, event) {
+            self.hear_event(event, out)
+        } else {
+            self.pass(None, event, out)
         }
     }
 
@@ -517,7 +490,9 @@ impl Machine for Layer {
         &self.server
     }
 
+    /// What links owe is not told: a COUNT that ends it stands behind lines for others, so that a
+    /// server with many links would have to read on while it waits.
     fn owed(&self) -> &[Owed] {
-        self.owing.news()
+        &[]
     }
 }

@@ -7,8 +7,6 @@ mod end;
 mod holding;
 pub mod laws;
 mod layer;
-mod owing;
 mod putting;
-mod uncounted;
 
 pub use layer::Layer;

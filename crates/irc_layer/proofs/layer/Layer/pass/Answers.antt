@@ -20,7 +20,6 @@ returns-clause-passes c =
       ends = c.put_all.new.ends;
       plain = c.args.self.now.plain;
       held = c.put_all.new.held;
-      owing = c.args.self.now.owing;
       alloc = c.args.self.now.alloc;
     }) c.put_all.new.out)
     c.clear.new.self.outs c.handle.new.out.outs (end_at c.follow.new.ends)
@@ -38,7 +37,6 @@ returns-clause-connected c =
       ends = c.put_all.new.ends;
       plain = c.args.self.now.plain;
       held = c.put_all.new.held;
-      owing = c.args.self.now.owing;
       alloc = c.args.self.now.alloc;
     }) c.put_all.new.out)
     c.clear.new.self.outs c.handle.new.out.outs (end_at c.follow.new.ends)

@@ -12,7 +12,6 @@ returns-in-Ok-clause-connected c =
       ends = c.put_all.new.ends;
       plain = c.args.self.now.plain;
       held = c.put_all.new.held;
-      owing = c.args.self.now.owing;
       alloc = c.args.self.now.alloc;
     }) c.put_all.new.out)
     c.clear.new.self.outs c.set.new.out.outs (ap (λ b. b.outs) c.clear.ensures)

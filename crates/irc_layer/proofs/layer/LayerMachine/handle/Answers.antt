@@ -1,20 +1,10 @@
-use Rattle.irc_layer.specs.Layers.{layer_view, state_of}
-use Rattle.irc_layer.proofs.Noted.{connected_then, handled_then, refused_then}
+use Rattle.std.proofs.Common.{◌∙◌, sym}
+use Rattle.irc_layer.specs.Layers.{state_of}
+use Rattle.irc_layer.proofs.Hearing.{passed_on}
 use Rattle.irc_layer.proofs.layer.LayerMachine.handle.Goals as goal
 
-pub returns-in-Ok-clause-handled : goal.returns-in-Ok-clause-handled
-returns-in-Ok-clause-handled c =
-    handled_then (state_of c.args.self.now c.args.out.now) c.handle_event.new.out.outs
-    (layer_view c.handle_event.new.self) (layer_view c.note_owed.new.self) c.args.event.now
-    c.note_owed.result c.note_owed.ensures.same c.in-Ok.ensures.handled c.note_owed.ensures.memory
-
-pub returns-in-Ok-clause-connected : goal.returns-in-Ok-clause-connected
-returns-in-Ok-clause-connected c =
-    connected_then (state_of c.args.self.now c.args.out.now) c.handle_event.new.out.outs
-    (layer_view c.handle_event.new.self) (layer_view c.note_owed.new.self) c.args.event.now
-    c.note_owed.result c.note_owed.ensures.same c.in-Ok.ensures.connected
-
-pub returns-in-Ok-clause-refused : goal.returns-in-Ok-clause-refused
-returns-in-Ok-clause-refused c =
-    refused_then c.args.self.now.server c.args.event.now c.note_owed.result
-    c.note_owed.ensures.memory
+pub returns-else-is_heard-clause-handled : goal.returns-else-is_heard-clause-handled
+returns-else-is_heard-clause-handled c =
+    passed_on (state_of c.args.self.now c.args.out.now) (state_of c.pass.new.self c.pass.new.out)
+    c.args.event.now c.pass.result (sym c.is_heard.ensures ∙ c.if-is_heard.false)
+    c.pass.ensures.passes c.pass.ensures.refused
