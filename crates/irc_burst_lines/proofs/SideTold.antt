@@ -5,6 +5,7 @@ use Rattle.std.proofs.lemmas.List.{map-append}
 use Rattle.std.specs.List.{flat_map, cons_option}
 use Rattle.std.specs.Option.{option_map, option_map_or, option_and_then}
 use Rattle.std.specs.FinMap.{entries, keys, values, retain_keys}
+use Rattle.irc_names.specs.Fold.{key}
 use Rattle.irc_names.specs.Tables.{Table, row, each}
 use Rattle.irc_names.specs.TableLaws.{row-each}
 use Rattle.irc_line.specs.Messages.{Written}
@@ -15,6 +16,7 @@ use Rattle.irc_modes.specs.declared.modes.ModeChange.{ModeChange}
 use Rattle.irc_modes.specs.Modes.{is_nil}
 use Rattle.irc_modes.specs.ModesSet.{set_changes, ban_changes}
 use Rattle.irc_room.specs.effect.Effect.TheVariants.{AddUser}
+use Rattle.irc_room.specs.Readers.{channel_at}
 use Rattle.irc_room.specs.Room.{Room}
 use Rattle.irc_routes.specs.Known.{Known, servers_told}
 use Rattle.irc_merge.specs.Deeds.{Deed, does, brings, sets, tops}
@@ -24,10 +26,11 @@ use Rattle.irc_merge.specs.Bursts.{settings_line, topic_line, in_lines, members_
 use Rattle.irc_merge.specs.Lemmas.TableWords.{values_each, entries_kept}
 use Rattle.irc_link_writer.specs.Written.{introduction}
 use Rattle.irc_burst_lines.specs.DeedLines.{deed_parts}
-use Rattle.irc_burst_lines.specs.BurstLines.{is_near, server_deed, burst_parts}
+use Rattle.irc_burst_lines.specs.BurstLines.{burst_parts, channel_parts, is_near, server_deed}
 use Rattle.irc_burst_lines.specs.Loops.Telling.{row_parts, is_near_user, near_user, near_member}
 use Rattle.irc_burst_lines.specs.Loops.Telling.{near_members, member_lines, settings_lines}
 use Rattle.irc_burst_lines.specs.Loops.Telling.{ban_lines, topic_lines, channel_lines, channel_told}
+use Rattle.irc_burst_lines.specs.Loops.Telling.{told_if}
 
 map_mapped : {X Y Z : Type 0} (f : Y → Z) (g : X → Y) (xs : List X)
     → map f (map g xs) ≡ map (λ x. f (g x)) xs
@@ -243,6 +246,20 @@ module _ (room : Room) (known : Known) (link : ℕ) where
   unfolding side_of
   channels_told = ap (λ cs. map written (flat_map deeds cs)) (values_each
       (channel_side passes users) room.channels) ∙ channels_written (values room.channels)
+
+  -- one of them, by its name
+  channel_if : (channel : Option Channel)
+      → map written (option_map_or deeds (option_and_then (channel_side passes users) channel) [])
+      ≡ told_if known link room channel
+  channel_if None = refl
+  channel_if (Some channel) = one_channel channel
+
+  pub channel_is_told : (name : List ℕ)
+      → channel_parts room known link name ≡ told_if known link room (channel_at room (key name))
+  unfolding side_of
+  channel_is_told name = ap (λ channel. map written (option_map_or deeds channel []))
+      (row-each (channel_side passes users) room.channels (key name))
+      ∙ channel_if (row room.channels (key name))
 
   -- ---- the whole burst
 

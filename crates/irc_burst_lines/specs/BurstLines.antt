@@ -9,13 +9,16 @@
 --   :a.net MODE #m +ntl 5
 --   :a.net MODE #m +bbb a!*@* b!*@* c!*@*
 --   :a.net TOPIC #m :hello
-use Rattle.std.specs.Prelude.{ℕ, Bool, not, List, ◌++◌, map}
+use Rattle.std.specs.Prelude.{ℕ, Bool, not, List, [], ◌++◌, map}
+use Rattle.std.specs.Option.{option_map_or}
 use Rattle.irc_line.specs.Messages.{Written}
+use Rattle.irc_names.specs.Fold.{key}
+use Rattle.irc_room.specs.Readers.{channel_at}
 use Rattle.irc_room.specs.Room.{Room}
 use Rattle.irc_routes.specs.Known.{Known, servers_told}
 use Rattle.irc_routes.specs.declared.server_row.ServerRow.{ServerRow}
 use Rattle.irc_merge.specs.Deeds.{Deed, gains}
-use Rattle.irc_merge.specs.Bursts.{burst_of}
+use Rattle.irc_merge.specs.Bursts.{burst_of, channel_deeds, side_of}
 use Rattle.irc_link_reader.specs.Reader.{is_behind_link}
 use Rattle.irc_burst_lines.specs.DeedLines.{deed_parts}
 
@@ -35,3 +38,12 @@ burst_deeds room known link =
 -- a burst as it goes out on a link: one line for each deed, none of which changes the room here
 unfoldable pub burst_parts : Room → Known → ℕ → List Written
 burst_parts room known link = map (deed_parts room known) (burst_deeds room known link)
+
+-- One channel, told as a burst tells it: none of it where no member is on this side.
+abbrev pub channel_deeds_in : List ℕ → (side : Room) → (name : List ℕ) → List Deed
+channel_deeds_in server side name =
+    option_map_or (channel_deeds server side.users) (channel_at side (key name)) []
+
+abbrev pub channel_parts : Room → Known → ℕ → (name : List ℕ) → List Written
+channel_parts room known link name = map (deed_parts room known)
+    (channel_deeds_in known.name (side_of (is_near known link) room) name)

@@ -5,9 +5,9 @@
 //! the nearer first; their users; channel by channel the members, the modes, the bans and the
 //! topic.
 ghost use Rattle.std.specs.Prelude.{◌≡◌, IfOk, OnOk};
-ghost use Rattle.std.specs.Option.{option_map};
+ghost use Rattle.std.specs.Option.{option_copied, option_map};
 ghost use Rattle.irc_line.specs.Messages.{text};
-ghost use Rattle.irc_burst_lines.specs.BurstLines.{burst_parts, is_near};
+ghost use Rattle.irc_burst_lines.specs.BurstLines.{burst_parts, channel_parts, is_near};
 ghost use Rattle.irc_burst_lines.specs.Loops.Telling.{
   channels_told,
   near_row,
@@ -15,6 +15,7 @@ ghost use Rattle.irc_burst_lines.specs.Loops.Telling.{
   row_parts,
   rows_told,
   server_rows,
+  told_if,
   told_in,
   told_member,
   told_members,
@@ -53,6 +54,43 @@ pub fn burst(room: &Room, routes: &Routes, link: u64) -> Result<Vec<Text, Global
     tell_users(&mut lines, room, routes, link)?;
     tell_channels(&mut lines, room, routes, link)?;
     Ok(lines)
+}
+
+/// The lines that tell a neighbour of one channel, as a burst tells it: none where the channel is
+/// not there, or has no member on this side.
+///
+/// # Errors
+/// Where memory runs out.
+pub fn channel_burst(
+    alloc: Global,
+    room: &Room,
+    routes: &Routes,
+    link: u64,
+    name: &[u8],
+) -> Result<Vec<Text, Global>, AllocError>
+    ensures { IfOk result
+        (λ lines. AreLines (channel_parts room.now.room routes.now link name.now) lines) }
+{
+    let mut lines = Vec::new(alloc);
+    tell_if(&mut lines, room, routes, link, room.channel(name))?;
+    Ok(lines)
+}
+
+/// Tells of a channel, if it is there.
+fn tell_if(
+    lines: &mut Vec<Text, Global>,
+    room: &Room,
+    routes: &Routes,
+    link: u64,
+    channel: Option<&Channel>,
+) -> Result<(), AllocError>
+    ensures { OnOk result (Tells (told_if routes.now link room.now.room (option_copied
+        channel.entry)) lines.old lines.new) }
+{
+    match channel {
+        Some(channel) => tell_one_channel(lines, room, routes, link, channel),
+        None => Ok(()),
+    }
 }
 
 /// Tells of servers, in their order.

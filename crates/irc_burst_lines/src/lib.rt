@@ -11,7 +11,7 @@ mod server_lines;
 mod set_modes;
 mod telling;
 
-pub use bursting::burst;
+pub use bursting::{burst, channel_burst};
 pub use irc_link_reader::NewMember;
 pub use mode_line::mode_text;
 pub use njoin_line::njoin_text;

@@ -1,4 +1,4 @@
-//! MODE of a server (RFC 2812 section 3.2.3). As many changes as there may be, it takes no memory.
+//! MODE of a channel (RFC 2812 section 3.2.3). As many changes as there may be, it takes no memory.
 ghost use Rattle.std.specs.Prelude.{◌≡◌, ◌≤◌, ◌++◌};
 ghost use Rattle.arrayvec.specs.ArrayVec.{array_vec_len};
 ghost use Rattle.irc_line.specs.Bytes.{cut};
@@ -11,15 +11,15 @@ ghost use Rattle.irc_burst_lines.specs.DeedLines.{mode_parts};
 use irc_line::{Text, push_cut};
 use irc_link_writer::push_head;
 use irc_modes::{ModeChange, push_letters, push_parameter};
-use irc_names::{ChannelName, ServerName};
+use irc_names::ChannelName;
 
-/// The line in which a server tells of modes of a channel, with the words that the changes have:
+/// The line in which somebody changes modes of a channel, with the words that the changes have:
 /// `:a.net MODE #m +ntl 5`.
-pub fn mode_text(server: &ServerName, channel: &ChannelName, changes: &[ModeChange]) -> Text
-    ensures { result.items ≡ text (mode_parts server.now channel.now changes.now) }
+pub fn mode_text(doer: &[u8], channel: &ChannelName, changes: &[ModeChange]) -> Text
+    ensures { result.items ≡ text (mode_parts doer.now channel.now changes.now) }
 {
     let mut line = Text::new();
-    push_head(&mut line, server.as_bytes(), b" MODE ", channel.as_bytes());
+    push_head(&mut line, doer, b" MODE ", channel.as_bytes());
     push_letters(&mut line, changes);
     push_words(&mut line, changes);
     let _ = line.try_extend_from_slice(b"\r\n");

@@ -77,7 +77,7 @@ fn tell_settings(
     if changes.is_empty() {
         return Ok(());
     }
-    put(lines, mode_text(server, &channel.name, &changes))
+    put(lines, mode_text(server.as_bytes(), &channel.name, &changes))
 }
 
 /// Tells of the bans, three a line.
@@ -104,7 +104,10 @@ fn tell_changes(
 {
     let mut rest = changes;
     while !rest.is_empty() {
-        put(lines, mode_text(server, channel, front(rest, BANS_A_LINE)))?;
+        put(
+            lines,
+            mode_text(server.as_bytes(), channel, front(rest, BANS_A_LINE)),
+        )?;
         rest = behind(rest, BANS_A_LINE);
     }
     Ok(())

@@ -15,7 +15,6 @@ ghost use Rattle.irc_journal.specs.Signs.{sign_of, EntersAll};
 
 use crate::connection_table::{ConnectionTable, Pushed};
 use crate::kind::ConnectionKind;
-use crate::owing::{Owed, tell_owed};
 use irc_batch::{Batch, Out};
 use irc_journal::Journal;
 use irc_outbox::Wire;
@@ -173,21 +172,6 @@ impl<W: Wire> Connections<W> {
             self.dispatch_one(out, journal)?;
         }
         Ok(())
-    }
-
-    /// The same, once the wire is told what links owe.
-    pub(crate) fn dispatch_owing(
-        &mut self,
-        owed: &[Owed],
-        outs: &Batch,
-        journal: &mut Journal,
-    ) -> Result<(), AllocError>
-        ensures carries { OnOk result (Carries W.is_after [] self.old outs.now.outs self.new) }
-        ensures marks { OnOk result (KeepsMarks self.old self.new) }
-        ensures noted { OnOk result (EntersAll (out_signs outs.now.outs) journal.old journal.new) }
-    {
-        tell_owed(&mut self.wire, owed);
-        self.dispatch(outs, journal)
     }
 
     /// Writes once to a connection. It ends where the server has closed it and nothing is left, and

@@ -440,8 +440,7 @@ impl<W: Wire, M: Machine> Core<W, M> {
         self.handle(&kind.end_event(conn))
     }
 
-    /// Passes an event on to the server, which does not refuse it, and does what it puts out; the
-    /// wire is told what links owe by it.
+    /// Passes an event on to the server, which does not refuse it, and does what it puts out.
     fn handle(&mut self, event: &Event) -> Result<(), AllocError>
         requires { IsToHearIn M.server_of event.now self.old }
         ensures at_one { OnOk result (IsAtOneIn M.server_of self.new) }
@@ -456,9 +455,7 @@ impl<W: Wire, M: Machine> Core<W, M> {
         match self.machine.handle(event, &mut self.out) {
             Ok(()) => {
                 note(&mut self.journal, event, self.machine.server())?;
-                let owed = self.machine.owed();
-                self.connections
-                    .dispatch_owing(owed, &self.out, &mut self.journal)
+                self.connections.dispatch(&self.out, &mut self.journal)
             }
             Err(fault) => Err(want_of_memory(fault)),
         }

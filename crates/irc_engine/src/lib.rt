@@ -11,9 +11,7 @@ mod lent_outbox;
 mod machine;
 mod noting;
 mod outbox_pool;
-mod owing;
 mod telling;
 
 pub use engine::{Engine, EngineFault};
 pub use machine::Machine;
-pub use owing::Owed;

@@ -4,7 +4,6 @@ ghost use Rattle.irc_stage.specs.View.{View};
 ghost use Rattle.irc_engine.specs.Machines.{is_out_of_memory, Dues, Handles, IsConnectedBy, IsDue};
 ghost use Rattle.irc_engine.specs.Machines.{IsRefusal, IsStillConnected};
 
-use crate::owing::Owed;
 use irc_batch::Batch;
 use irc_moments::Moment;
 use irc_server::{Event, Server, ServerFault};
@@ -48,14 +47,9 @@ pub trait Machine {
     /// Its server.
     fn server(&self) -> &Server
         ensures { result.now ≡ server_of self.now };
-
-    /// What has been put out on links that their other ends have not said to have read, of each
-    /// link of which that is another number of bytes than before the last event.
-    fn owed(&self) -> &[Owed];
 }
 
-/// A server is one of itself, of which nothing is ever due. Nothing in its protocol says what the
-/// other end of a link has read.
+/// A server is one of itself, of which nothing is ever due.
 impl Machine for Server {
     ghost use Rattle.irc_engine.specs.Machines.{itself, never_due};
     ghost use Rattle.irc_server.specs.ReadEvents.{IsHandled};
@@ -77,9 +71,5 @@ impl Machine for Server {
 
     fn server(&self) -> &Server {
         self
-    }
-
-    fn owed(&self) -> &[Owed] {
-        &[]
     }
 }

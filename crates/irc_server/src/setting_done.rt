@@ -72,7 +72,7 @@ fn setting_text(setting: &Setting) -> Text
             server,
             channel,
             changes,
-        } => mode_text(server, channel, changes.as_slice()),
+        } => mode_text(server.as_bytes(), channel, changes.as_slice()),
         Setting::Topic {
             server,
             channel,

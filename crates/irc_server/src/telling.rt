@@ -113,7 +113,7 @@ fn set(serving: Serving, link: Link, setting: &ModeSetting) -> Result<Serving, A
     let changes = setting.changes.as_slice();
     let view = serving.view();
     let raised = raised(view.alloc(), view.room(), &setting.channel, changes)?;
-    let line = mode_text(&setting.server, &setting.channel, changes);
+    let line = mode_text(setting.server.as_bytes(), &setting.channel, changes);
     make(serving, link, &setting.channel, raised)?.tell_all(Some(link), &line)
 }
 

@@ -4,7 +4,7 @@ use Rattle.std.specs.Prelude.{option_to_list, if◌then◌else◌}
 use Rattle.std.specs.Borrow.{Bor}
 use Rattle.std.specs.Global.{Vec}
 use Rattle.std.specs.List.{filter_map, flat_map}
-use Rattle.std.specs.Option.{option_and_then, option_map}
+use Rattle.std.specs.Option.{option_and_then, option_map, option_map_or}
 use Rattle.std.specs.FinMap.{entries, values}
 use Rattle.arrayvec.specs.ArrayVec.{ArrayVec}
 use Rattle.irc_names.specs.Tables.{Table, row}
@@ -144,6 +144,9 @@ near_rows known link room rows =
 
 abbrev pub told_in : Known → ℕ → Room → Channel → List Written
 told_in known link room channel = channel_told known link room.users channel
+
+abbrev pub told_if : Known → ℕ → Room → Option Channel → List Written
+told_if known link room channel = option_map_or (told_in known link room) channel []
 
 abbrev pub channels_told : Known → ℕ → Room → List Written
 channels_told known link room = flat_map (channel_told known link room.users) (values room.channels)

@@ -8,9 +8,7 @@ use Rattle.irc_burst_lines.proofs.mode_line.mode_text.Goals as goal
 pub returns : goal.returns
 returns c =
     let head = c.push_head.ensures.head
-    ∙ ap (λ name. cut (codes ":" ++ name ++ codes " MODE " ++ c.as_bytes-2.result.now ++ codes " "))
-    c.as_bytes.ensures.value
-    ∙ ap (λ channel. cut (codes ":" ++ c.args.server.now ++ codes " MODE " ++ channel ++ codes " "))
-    c.as_bytes-2.ensures.value in
+    ∙ ap (λ channel. cut (codes ":" ++ c.args.doer.now ++ codes " MODE " ++ channel ++ codes " "))
+    c.as_bytes.ensures.value in
     mode_written _ _ _ _ _ _ _ head (cut_two _ _ _ _ _ c.push_letters.ensures.pushed
     c.push_words.ensures.pushed) (grind (arith, common_steps))

@@ -22,6 +22,8 @@ returns c =
     ∙ ap (λ (room : Room). raised_in room setting.channel c.as_slice-changes.result.now)
     (c.room.ensures ∙ ap (λ (view : View). view.room) c.view-view.ensures)
     ∙ ap (raised_in old.state.room setting.channel) c.as_slice-changes.ensures))
-    (c.mode_text-line.ensures ∙ ap (λ changes. text (mode_parts setting.server
-    setting.channel changes)) c.as_slice-changes.ensures)
+    (c.mode_text-line.ensures ∙ ap (λ doer. text (mode_parts doer setting.channel
+    c.as_slice-changes.result.now)) c.as_bytes.ensures.value
+    ∙ ap (λ changes. text (mode_parts setting.server setting.channel changes))
+    c.as_slice-changes.ensures)
     c.tell_all.ensures
