@@ -2,7 +2,7 @@
 use Rattle.std.proofs.Common.{◌≡◌, ℕ, Option, Some, None, List, [], ◌∷◌, ◌++◌, take, drop, refl}
 use Rattle.std.proofs.Common.{sym, ap, ◌∙◌, Bool, true, false, not, ◌&&◌, true≢false, if◌then◌else◌}
 use Rattle.irc_names.specs.Fold.{same}
-use Rattle.irc_crossing.specs.declared.change.Change.TheVariants.{Come, Rename, Go, Out, Set}
+use Rattle.irc_crossing.specs.declared.change.Change.TheVariants.{Come, Rename, Go, Out, Join, Set}
 use Rattle.irc_crossing.specs.Changes.{behind, both_go, crossed}
 use Rattle.irc_crossing.specs.Loops.Comers.{are_comers}
 use Rattle.irc_crossing.specs.declared.change.Change.{Change}
@@ -64,10 +64,12 @@ comers_pass (Some (Come a)) (Some (Come b)) is =
 comers_pass (Some (Come a)) (Some (Rename o w)) is = absurd (true≢false (sym is))
 comers_pass (Some (Come a)) (Some (Go x y)) is = absurd (true≢false (sym is))
 comers_pass (Some (Come a)) (Some (Out u c)) is = absurd (true≢false (sym is))
+comers_pass (Some (Come a)) (Some (Join c b)) is = absurd (true≢false (sym is))
 comers_pass (Some (Come a)) (Some (Set s)) is = absurd (true≢false (sym is))
 comers_pass (Some (Rename o w)) ours is = absurd (true≢false (sym is))
 comers_pass (Some (Go x y)) ours is = absurd (true≢false (sym is))
 comers_pass (Some (Out u c)) ours is = absurd (true≢false (sym is))
+comers_pass (Some (Join c b)) ours is = absurd (true≢false (sym is))
 comers_pass (Some (Set s)) ours is = absurd (true≢false (sym is))
 
 pub comers_stay : (theirs ours : Option Change) → are_comers theirs ours ≡ true
@@ -79,8 +81,10 @@ comers_stay (Some (Come a)) (Some (Come b)) is =
 comers_stay (Some (Come a)) (Some (Rename o w)) is = absurd (true≢false (sym is))
 comers_stay (Some (Come a)) (Some (Go x y)) is = absurd (true≢false (sym is))
 comers_stay (Some (Come a)) (Some (Out u c)) is = absurd (true≢false (sym is))
+comers_stay (Some (Come a)) (Some (Join c b)) is = absurd (true≢false (sym is))
 comers_stay (Some (Come a)) (Some (Set s)) is = absurd (true≢false (sym is))
 comers_stay (Some (Rename o w)) ours is = absurd (true≢false (sym is))
 comers_stay (Some (Go x y)) ours is = absurd (true≢false (sym is))
 comers_stay (Some (Out u c)) ours is = absurd (true≢false (sym is))
+comers_stay (Some (Join c b)) ours is = absurd (true≢false (sym is))
 comers_stay (Some (Set s)) ours is = absurd (true≢false (sym is))

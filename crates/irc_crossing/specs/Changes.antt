@@ -13,6 +13,10 @@
 --   two to one name         a.net   :al NICK zed           b.net   :bo NICK zed
 --                           a.net kills     zed, who was al, and bo
 --                           b.net kills     zed, who was bo, and al
+--   nothing is set in the next channel of a name
+--                           a.net   :al KICK #c bo :out, :al PART #c :bye, :ann JOIN #c\7o
+--                           b.net   :bo MODE #c +k x
+--                           a.net does      nothing, and at b.net #c ends and begins anew
 -- Who takes a nickname is not the one who had it: that one is gone, also where no line has told so,
 -- as where a server is lost.
 use Rattle.std.specs.Prelude.{ℕ, Bool, false, ◌&&◌, ◌||◌, Option, Some, None, List}
@@ -22,10 +26,10 @@ use Rattle.irc_modes.specs.Letters.{names_member}
 use Rattle.irc_modes.specs.declared.modes.ModeChange.{ModeChange}
 use Rattle.irc_names.specs.Fold.{same}
 use Rattle.irc_crossing.specs.declared.change.Change.{Change}
-use Rattle.irc_crossing.specs.declared.change.Change.TheVariants.{Come, Rename, Go, Out, Set}
+use Rattle.irc_crossing.specs.declared.change.Change.TheVariants.{Come, Rename, Go, Out, Join, Set}
 use Rattle.irc_crossing.specs.declared.setting.Setting.{Setting}
 use Rattle.irc_crossing.specs.declared.setting.Setting.TheVariants.{Mode, Topic}
-use Rattle.irc_crossing.specs.Settings.{yields}
+use Rattle.irc_crossing.specs.Settings.{is_in, yields}
 
 -- the nickname that somebody has by a change, and had not before; another spelling is no other one
 abbrev pub taken_by : Change → Option (List ℕ)
@@ -33,6 +37,7 @@ taken_by (Come nick) = Some nick
 taken_by (Rename nick new) = if same nick new then None else Some new
 taken_by (Go nick other) = None
 taken_by (Out nick channel) = None
+taken_by (Join channel begins) = None
 taken_by (Set setting) = None
 
 -- the nickname now of whoever had this one, behind a change; none where it is gone
@@ -51,6 +56,7 @@ nick_now (Come taken) nick = if same taken nick then None else Some nick
 nick_now (Rename old new) nick = renamed_now old new nick
 nick_now (Go gone other) nick = if is_gone gone other nick then None else Some nick
 nick_now (Out out channel) nick = Some nick
+nick_now (Join channel begins) nick = Some nick
 nick_now (Set setting) nick = Some nick
 
 -- the same of a member of a channel; none also where it is out of that
@@ -60,6 +66,7 @@ member_now (Out out from) channel nick =
 member_now (Come taken) channel nick = nick_now (Come taken) nick
 member_now (Rename old new) channel nick = nick_now (Rename old new) nick
 member_now (Go gone other) channel nick = nick_now (Go gone other) nick
+member_now (Join at begins) channel nick = Some nick
 member_now (Set setting) channel nick = Some nick
 
 -- ---- what is set
@@ -77,13 +84,16 @@ setting_now ours (Mode channel change) =
     then option_map (λ now. Mode channel now) (mode_now ours channel change change.word)
     else Some (Mode channel change)
 
--- what becomes behind a change of what the other end has set beside it
+-- What becomes behind a change of what the other end has set beside it. What it set in a channel
+-- that has ended here, and begun anew, is of the one that ended.
 abbrev pub setting_behind : Change → Setting → Option Setting
 setting_behind (Set setting) theirs = if yields theirs setting then None else Some theirs
 setting_behind (Come nick) theirs = setting_now (Come nick) theirs
 setting_behind (Rename nick new) theirs = setting_now (Rename nick new) theirs
 setting_behind (Go nick other) theirs = setting_now (Go nick other) theirs
 setting_behind (Out nick channel) theirs = setting_now (Out nick channel) theirs
+setting_behind (Join channel begins) theirs =
+    if begins && is_in channel theirs then None else setting_now (Join channel begins) theirs
 
 -- ---- two changes
 
@@ -99,6 +109,7 @@ both_go (Come nick) = Go nick None
 both_go (Rename nick new) = Go new (Some nick)
 both_go (Go nick other) = Go nick other
 both_go (Out nick channel) = Out nick channel
+both_go (Join channel begins) = Join channel begins
 both_go (Set setting) = Set setting
 
 -- those of two who are there
@@ -106,6 +117,16 @@ abbrev pub gone_of : (one other : Option (List ℕ)) → Option Change
 gone_of (Some one) other = Some (Go one other)
 gone_of None (Some other) = Some (Go other None)
 gone_of None None = None
+
+-- Where both ends begin a channel, or it is there at the other end, it is one from then on.
+abbrev pub join_behind : (channel : List ℕ) → (begins : Bool) → Change → Option Change
+join_behind channel begins (Join at other) =
+    if begins && same channel at then None else Some (Join channel begins)
+join_behind channel begins (Come nick) = Some (Join channel begins)
+join_behind channel begins (Rename nick new) = Some (Join channel begins)
+join_behind channel begins (Go nick other) = Some (Join channel begins)
+join_behind channel begins (Out nick at) = Some (Join channel begins)
+join_behind channel begins (Set setting) = Some (Join channel begins)
 
 -- what becomes of a change behind another one, where they do not give one nickname to two
 abbrev pub behind : (theirs ours : Change) → Option Change
@@ -115,6 +136,7 @@ behind (Go nick other) ours =
     gone_of (nick_now ours nick) (option_and_then (nick_now ours) other)
 behind (Out nick channel) ours =
     option_map (λ now. Out now channel) (member_now ours channel nick)
+behind (Join channel begins) ours = join_behind channel begins ours
 behind (Set setting) ours = option_map Set (setting_behind ours setting)
 
 -- what becomes of a change of one end behind one of the other

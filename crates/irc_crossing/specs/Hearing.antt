@@ -25,7 +25,7 @@ use Rattle.irc_names.specs.Names.{is_channel, is_nick}
 use Rattle.irc_link_words.specs.Words.{is_marked, unmarked}
 use Rattle.irc_burst_lines.specs.DeedLines.{mode_parts}
 use Rattle.irc_crossing.specs.declared.change.Change.{Change}
-use Rattle.irc_crossing.specs.declared.change.Change.TheVariants.{Come, Rename, Go, Out, Set}
+use Rattle.irc_crossing.specs.declared.change.Change.TheVariants.{Come, Rename, Go, Out, Join, Set}
 use Rattle.irc_crossing.specs.declared.hearing.Given.{Given}
 use Rattle.irc_crossing.specs.declared.hearing.Given.TheVariants.{AsItCame, Changed, LeftOut}
 use Rattle.irc_crossing.specs.declared.hearing.Given.TheVariants.{Brings, Kills, Sets}
@@ -193,6 +193,7 @@ nick_given is_held message (Some (Rename nick new)) =
     given_with message (Some nick) message.params
 nick_given is_held message (Some (Go nick other)) = met_given is_held message nick other
 nick_given is_held message (Some (Out nick channel)) = LeftOut
+nick_given is_held message (Some (Join channel begins)) = LeftOut
 nick_given is_held message (Some (Set setting)) = LeftOut
 
 -- ---- any line

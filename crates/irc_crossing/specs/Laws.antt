@@ -12,7 +12,7 @@ use Rattle.irc_crossing.specs.Hearing.{given, log_after}
 use Rattle.irc_crossing.specs.Lines.{is_kick_line, is_mode_line, is_nick_line, is_topic_line}
 use Rattle.irc_crossing.specs.Logs.{means}
 use Rattle.irc_crossing.specs.declared.change.Change.{Change}
-use Rattle.irc_crossing.specs.declared.change.Change.TheVariants.{Come, Rename, Go, Out, Set}
+use Rattle.irc_crossing.specs.declared.change.Change.TheVariants.{Come, Rename, Go, Out, Join, Set}
 use Rattle.irc_crossing.specs.declared.hearing.Given.TheVariants.{AsItCame, LeftOut}
 use Rattle.irc_crossing.specs.declared.log.Entry.{Entry}
 
@@ -70,6 +70,7 @@ taker (Come nick) = None
 taker (Rename nick new) = Some nick
 taker (Go nick other) = None
 taker (Out nick channel) = None
+taker (Join channel begins) = None
 taker (Set setting) = None
 
 -- Both go at each end: who has it there by then, and who was to take it.
@@ -105,6 +106,7 @@ IsPossible here (Come nick) = here nick ≡ false
 IsPossible here (Rename nick new) = MayRename here nick new
 IsPossible here (Go nick other) = MayGo here nick other
 IsPossible here (Out nick channel) = here nick ≡ true
+IsPossible here (Join channel begins) = ⊤
 IsPossible here (Set setting) = ⊤
 
 -- one end alone gives a user another nickname
@@ -113,10 +115,12 @@ AreOfTwo (Rename one new) (Rename other second) = same one other ≡ false
 AreOfTwo (Rename one new) (Come nick) = ⊤
 AreOfTwo (Rename one new) (Go nick other) = ⊤
 AreOfTwo (Rename one new) (Out nick channel) = ⊤
+AreOfTwo (Rename one new) (Join channel begins) = ⊤
 AreOfTwo (Rename one new) (Set setting) = ⊤
 AreOfTwo (Come nick) ours = ⊤
 AreOfTwo (Go nick other) ours = ⊤
 AreOfTwo (Out nick channel) ours = ⊤
+AreOfTwo (Join channel begins) ours = ⊤
 AreOfTwo (Set setting) ours = ⊤
 
 -- the nickname behind what is left of a change

@@ -1,12 +1,12 @@
 -- What a line of a link changes (RFC 2813 section 4), and the nicknames in it.
-use Rattle.std.specs.Prelude.{ℕ, Bool, ◌&&◌, ◌||◌, Option, Some, None, List, [], ◌∷◌}
+use Rattle.std.specs.Prelude.{ℕ, Bool, false, ◌&&◌, ◌||◌, Option, Some, None, List, [], ◌∷◌}
 use Rattle.std.specs.Prelude.{codes, get_or, map, option_to_list, if◌then◌else◌}
 use Rattle.std.specs.Option.{option_and_then, option_map, option_map_or}
 use Rattle.irc_line.specs.Messages.{Parsed}
 use Rattle.irc_names.specs.Names.{is_channel, is_nick}
-use Rattle.irc_link_words.specs.Words.{are_words, is_command, told_changes}
+use Rattle.irc_link_words.specs.Words.{are_words, is_command, is_marked, told_changes, unmarked}
 use Rattle.irc_crossing.specs.declared.change.Change.{Change}
-use Rattle.irc_crossing.specs.declared.change.Change.TheVariants.{Come, Rename, Go, Out, Set}
+use Rattle.irc_crossing.specs.declared.change.Change.TheVariants.{Come, Rename, Go, Out, Join, Set}
 use Rattle.irc_crossing.specs.declared.modes.ChannelModes.{ChannelModes}
 use Rattle.irc_crossing.specs.declared.setting.Setting.TheVariants.{Topic}
 use Rattle.irc_crossing.specs.Letters.{set_mode}
@@ -42,6 +42,9 @@ is_join_line message = is_command (codes "JOIN") message.command
 abbrev pub is_njoin_line : Parsed → Bool
 is_njoin_line message = is_command (codes "NJOIN") message.command
 
+abbrev pub is_squit_line : Parsed → Bool
+is_squit_line message = is_command (codes "SQUIT") message.command
+
 -- whether the first parameter of a command is whom it is for, if that is a user
 abbrev pub is_for_somebody : Parsed → Bool
 is_for_somebody message = is_kill_line message || (is_command (codes "INVITE") message.command
@@ -66,6 +69,9 @@ abbrev pub topic_of : (channel text : List ℕ) → Option Change
 topic_of channel text =
     if is_channel channel && are_words text then Some (Set (Topic channel text)) else None
 
+abbrev pub join_of : (channel : List ℕ) → (begins : Bool) → Option Change
+join_of channel begins = if is_channel channel then Some (Join channel begins) else None
+
 -- A NICK without a prefix introduces a user, and one with a prefix is a change of its nickname.
 abbrev pub nick_change : Option (List ℕ) → List ℕ → Option Change
 nick_change None word = come_of word
@@ -80,7 +86,10 @@ change_of message =
     then option_and_then (λ nick. out_of nick (word_at 0 message)) message.prefix
     else (if is_kick_line message then out_of (word_at 1 message) (word_at 0 message)
     else (if is_topic_line message then topic_of (word_at 0 message) (word_at 1 message)
-    else None)))))
+    else (if is_join_line message
+    then join_of (unmarked (word_at 0 message)) (is_marked (word_at 0 message))
+    else (if is_njoin_line message then join_of (word_at 0 message) false
+    else None)))))))
 
 -- ---- MODE of a channel (RFC 2811 section 4)
 
@@ -98,10 +107,10 @@ channel_modes message = if is_mode_line message then modes_in message.params els
 
 -- ---- what is logged of a line: each thing that it changes
 
--- Of a JOIN and an NJOIN nothing is to be passed by what comes, but that it was put out: a channel
--- may have begun by it.
+-- Of the loss of a server nothing is to be passed by what comes, but that it was put out: a channel
+-- may have ended by it.
 abbrev pub logged : Parsed → List (Option Change)
 logged message =
-    if is_join_line message || is_njoin_line message then None ∷ []
+    if is_squit_line message then None ∷ []
     else option_map_or (λ (modes : ChannelModes). map (set_mode modes.channel) modes.changes)
     (channel_modes message) (map (λ change. Some change) (option_to_list (change_of message)))

@@ -19,6 +19,11 @@ use Rattle.irc_modes.specs.declared.modes.ModeLetter.TheVariants as letter
 use Rattle.irc_crossing.specs.declared.setting.Setting.{Setting}
 use Rattle.irc_crossing.specs.declared.setting.Setting.TheVariants.{Mode, Topic}
 
+-- whether it is set in this channel
+abbrev pub is_in : List ℕ → Setting → Bool
+is_in channel (Mode at change) = same channel at
+is_in channel (Topic at text) = same channel at
+
 -- ---- one thing
 
 -- p and s are one

@@ -3,7 +3,8 @@
 ghost use Rattle.std.specs.Prelude.{◌≡◌};
 ghost use Rattle.std.specs.Option.{option_and_then, option_copied};
 ghost use Rattle.irc_crossing.specs.Changes.{are_met, behind, both_go, crossed, gone_of, is_gone};
-ghost use Rattle.irc_crossing.specs.Changes.{member_now, mode_now, nick_now, renamed_now};
+ghost use Rattle.irc_crossing.specs.Changes.{join_behind, member_now, mode_now, nick_now};
+ghost use Rattle.irc_crossing.specs.Changes.{renamed_now};
 ghost use Rattle.irc_crossing.specs.Changes.{setting_behind, setting_now, taken_by};
 ghost use Rattle.irc_crossing.specs.Loops.Standings.{name_of};
 
@@ -36,6 +37,13 @@ pub enum Change {
         nick: Nick,
         /// Which channel.
         channel: ChannelName,
+    },
+    /// Somebody comes to a channel: `:al JOIN #c`, or `:a.net NJOIN #c :al`.
+    Join {
+        /// Which channel.
+        channel: ChannelName,
+        /// Whether it begins by that: `:al JOIN #c\7o`.
+        begins: bool,
     },
     /// Something is set in a channel: a letter of `:al MODE #c +k x`, or `:al TOPIC #c :hello`.
     Set(Setting),
@@ -125,6 +133,10 @@ impl Change {
                 nick: nick.copy(),
                 channel: channel.copy(),
             },
+            Change::Join { channel, begins } => Change::Join {
+                channel: channel.copy(),
+                begins: *begins,
+            },
             Change::Set(setting) => Change::Set(setting.copy()),
         }
     }
@@ -166,7 +178,23 @@ impl Change {
                 let channel = channel.copy();
                 Some(Change::Out { nick, channel })
             }
+            Change::Join { channel, begins } => other.join_behind(channel, *begins),
             Change::Set(setting) => Some(Change::Set(other.setting_behind(setting)?)),
+        }
+    }
+
+    /// What becomes behind it of somebody's coming to a channel: where both ends begin one, or one
+    /// is there at the other end, it begins no more.
+    fn join_behind(&self, channel: &ChannelName, begins: bool) -> Option<Change>
+        ensures { result ≡ join_behind channel.now begins self.now }
+    {
+        match self {
+            Change::Join { channel: at, .. } if begins && same(channel.as_bytes(), at.as_bytes()) =>
+                { None }
+            _ => Some(Change::Join {
+                channel: channel.copy(),
+                begins,
+            }),
         }
     }
 
@@ -177,6 +205,10 @@ impl Change {
         match self {
             Change::Set(setting) if theirs.yields(setting) => None,
             Change::Set(_) => Some(theirs.copy()),
+            Change::Join {
+                channel,
+                begins: true,
+            } if theirs.is_in(channel) => None,
             _ => self.setting_now(theirs),
         }
     }

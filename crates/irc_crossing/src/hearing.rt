@@ -25,8 +25,9 @@ ghost use Rattle.irc_crossing.specs.declared.hearing.Given.TheVariants.{AsItCame
 use crate::change::Change;
 use crate::lines::{change_of, is_for_somebody, word_at};
 use crate::log::Log;
-use crate::modes::{ChannelModes, LettersLeft, channel_modes, mode_line};
+use crate::modes::{ChannelModes, LettersLeft, channel_modes};
 use arrayvec::ArrayVec;
+use irc_burst_lines::mode_text;
 use irc_line::limits::MAX_PARAMETERS;
 use irc_line::{Message, Parts, Prefix, Text, parse, write_message};
 use irc_link_words::{is_command, is_marked, unmarked};
@@ -283,7 +284,7 @@ fn nick_given(message: &Message<'_>, became: Option<Change>, is_held: bool) -> G
             given_with(message, Some(nick.as_bytes()), message.params.as_slice())
         }
         Some(Change::Go { nick, other }) => met_given(message, nick, other, is_held),
-        Some(Change::Out { .. } | Change::Set(_)) | None => Given::LeftOut,
+        Some(Change::Out { .. } | Change::Join { .. } | Change::Set(_)) | None => Given::LeftOut,
     }
 }
 
@@ -326,7 +327,7 @@ impl LettersLeft {
         } else if self.changes.is_empty() {
             Given::LeftOut
         } else {
-            Given::Changed(mode_line(doer, channel, self.changes.as_slice()))
+            Given::Changed(mode_text(doer, channel, self.changes.as_slice()))
         }
     }
 
@@ -338,7 +339,7 @@ impl LettersLeft {
         if self.changes.is_empty() {
             Given::LeftOut
         } else {
-            Given::Sets(mode_line(peer, channel, self.changes.as_slice()))
+            Given::Sets(mode_text(peer, channel, self.changes.as_slice()))
         }
     }
 }

@@ -3,6 +3,7 @@
 //! Definitions are in `specs/`.
 #![tactic(auto)]
 
+mod asking;
 mod change;
 mod hearing;
 pub mod laws;

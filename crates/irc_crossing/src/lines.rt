@@ -1,13 +1,13 @@
 //! What a line of a link changes.
 ghost use Rattle.std.specs.Prelude.{◌≡◌};
 ghost use Rattle.irc_line.specs.MessageViews.{optional_now, parsed};
-ghost use Rattle.irc_crossing.specs.Lines.{change_of, come_of, go_of, is_for_somebody, nick_change};
-ghost use Rattle.irc_crossing.specs.Lines.{out_of, rename_of, topic_of, word_at};
+ghost use Rattle.irc_crossing.specs.Lines.{change_of, come_of, go_of, is_for_somebody, join_of};
+ghost use Rattle.irc_crossing.specs.Lines.{nick_change, out_of, rename_of, topic_of, word_at};
 
 use crate::change::Change;
 use crate::setting::Setting;
 use irc_line::Message;
-use irc_link_words::{is_command, read_words};
+use irc_link_words::{is_command, is_marked, read_words, unmarked};
 use irc_names::{ChannelName, Nick};
 
 /// What a line changes, but a MODE.
@@ -27,6 +27,10 @@ pub(crate) fn change_of(message: &Message<'_>) -> Option<Change>
         out_of(word_at(message, 1), first)
     } else if is_command(b"TOPIC", message.command) {
         topic_of(first, word_at(message, 1))
+    } else if is_command(b"JOIN", message.command) {
+        join_of(unmarked(first), is_marked(first))
+    } else if is_command(b"NJOIN", message.command) {
+        join_of(first, false)
     } else {
         None
     }
@@ -79,6 +83,13 @@ fn topic_of(channel: &[u8], text: &[u8]) -> Option<Change>
         Ok(text) => Some(Change::Set(Setting::Topic { channel, text })),
         Err(_) => None,
     }
+}
+
+fn join_of(channel: &[u8], begins: bool) -> Option<Change>
+    ensures { result ≡ join_of channel.now begins }
+{
+    let channel = ChannelName::read(channel)?;
+    Some(Change::Join { channel, begins })
 }
 
 /// A word of a line; no bytes where the line has fewer.

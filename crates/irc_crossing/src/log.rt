@@ -98,7 +98,7 @@ impl Log {
     fn put_message(&mut self, piece: u64, message: &Message<'_>) -> Result<(), AllocError>
         ensures { OnOk result (self.new ≡ put_out piece (logged (parsed message.now)) self.old) }
     {
-        if is_command(b"JOIN", message.command) || is_command(b"NJOIN", message.command) {
+        if is_command(b"SQUIT", message.command) {
             return self.push(piece, None);
         }
         match channel_modes(self.alloc, message)? {

@@ -1,13 +1,7 @@
 //! The letters of a MODE of a channel.
-ghost use Rattle.std.specs.Prelude.{◌≡◌, ◌≤◌, [], ◌∷◌, ◌++◌, IfOk, OnOk, Some};
-ghost use Rattle.arrayvec.specs.ArrayVec.{array_vec_len};
-ghost use Rattle.irc_line.specs.Bytes.{cut};
-ghost use Rattle.irc_line.specs.Limits.{max_line};
-ghost use Rattle.irc_line.specs.Messages.{middle_text, text};
+ghost use Rattle.std.specs.Prelude.{◌≡◌, [], ◌∷◌, ◌++◌, IfOk, OnOk, Some};
 ghost use Rattle.irc_line.specs.MessageViews.{optional_now, parsed};
 ghost use Rattle.irc_line.specs.PartViews.{words_now};
-ghost use Rattle.irc_link_words.specs.Words.{parameters};
-ghost use Rattle.irc_burst_lines.specs.DeedLines.{mode_parts};
 ghost use Rattle.irc_crossing.specs.Letters.{is_same_word, letters_left, set_mode};
 ghost use Rattle.irc_crossing.specs.Lines.{channel_modes, modes_in};
 ghost use Rattle.irc_crossing.specs.Loops.LettersLeft.{added, left_of, with_log};
@@ -15,10 +9,9 @@ ghost use Rattle.irc_crossing.specs.Loops.LettersLeft.{added, left_of, with_log}
 use crate::change::Change;
 use crate::log::Log;
 use crate::setting::Setting;
-use irc_line::{Message, Text, push_cut};
+use irc_line::Message;
 use irc_link_words::{is_command, read_changes};
-use irc_link_writer::push_head;
-use irc_modes::{ModeChange, push_letters, push_parameter};
+use irc_modes::ModeChange;
 use irc_names::ChannelName;
 use irc_room::ModeChanges;
 use std::alloc::{AllocError, Global};
@@ -141,38 +134,5 @@ fn is_same_word(one: Option<&[u8]>, other: Option<&[u8]>) -> bool
         (Some(one), Some(other)) => one == other,
         (None, None) => true,
         _ => false,
-    }
-}
-
-/// The line in which somebody sets modes of a channel: `:bo MODE #c +ko x al`.
-pub(crate) fn mode_line(doer: &[u8], channel: &ChannelName, changes: &[ModeChange]) -> Text
-    ensures { result.items ≡ text (mode_parts doer.now channel.now changes.now) }
-{
-    let mut line = Text::new();
-    push_head(&mut line, doer, b" MODE ", channel.as_bytes());
-    push_letters(&mut line, changes);
-    push_words(&mut line, changes);
-    let _ = line.try_extend_from_slice(b"\r\n");
-    line
-}
-
-/// The words of letters in order, each after a space.
-fn push_words(line: &mut Text, changes: &[ModeChange])
-    requires { array_vec_len line.old ≤ max_line }
-    ensures pushed { line.new.items ≡ cut (line.old.items ++ middle_text (parameters changes.now)) }
-    ensures still_cut { array_vec_len line.new ≤ max_line }
-{
-    push_cut(line, b"");
-    for change in changes {
-        push_parameter(line, written_word(change));
-    }
-}
-
-fn written_word(change: &ModeChange) -> Option<&[u8]>
-    ensures { optional_now result ≡ change.now.word }
-{
-    match &change.word {
-        Some(word) => Some(word.as_bytes()),
-        None => None,
     }
 }

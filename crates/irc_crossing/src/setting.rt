@@ -3,7 +3,7 @@ ghost use Rattle.std.specs.Prelude.{◌≡◌};
 ghost use Rattle.std.specs.Option.{option_copied};
 ghost use Rattle.irc_crossing.specs.Settings.{are_greater_bytes, are_same_words, is_by_word};
 ghost use Rattle.irc_crossing.specs.Settings.{is_greater_change, is_greater_limit, is_greater_set};
-ghost use Rattle.irc_crossing.specs.Settings.{is_above, is_one_place, is_secret, limit_of};
+ghost use Rattle.irc_crossing.specs.Settings.{is_above, is_in, is_one_place, is_secret, limit_of};
 ghost use Rattle.irc_crossing.specs.Settings.{place_of, yields};
 
 use irc_channels::Words;
@@ -58,6 +58,17 @@ impl Setting {
                     && !theirs.as_bytes().cmp(text.as_bytes()).is_lt()
             }
             _ => false,
+        }
+    }
+
+    /// Whether it is set in this channel.
+    pub(crate) fn is_in(&self, channel: &ChannelName) -> bool
+        ensures { result ≡ is_in channel.now self.now }
+    {
+        match self {
+            Setting::Mode { channel: at, .. } | Setting::Topic { channel: at, .. } => {
+                same(channel.as_bytes(), at.as_bytes())
+            }
         }
     }
 
