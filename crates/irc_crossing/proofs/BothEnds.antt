@@ -1,14 +1,14 @@
 -- Two changes, each done first at one end.
-use Rattle.std.proofs.Common.{◌≡◌, ℕ, Bool, true, false, ◌||◌, Option, Some, None, List, refl, sym}
+use Rattle.std.proofs.Common.{◌≡◌, ℕ, Bool, true, false, ◌&&◌, ◌||◌, Option, Some, None, List, refl, sym}
 use Rattle.std.proofs.Common.{◌∙◌, ap, if◌then◌else◌, rules, nat_eq, true≢false}
 use Rattle.std.specs.Cmp.Lexicographic.{pointwise}
 use Rattle.std.specs.Option.{option_and_then, option_map_or, option_map}
 use Rattle.irc_names.specs.Fold.{key, same}
 use Rattle.irc_names.specs.FoldLaws.{same-tells}
 use Rattle.irc_crossing.specs.declared.change.Change.{Change}
-use Rattle.irc_crossing.specs.declared.change.Change.TheVariants.{Come, Rename, Go, Out, Set}
+use Rattle.irc_crossing.specs.declared.change.Change.TheVariants.{Come, Rename, Go, Out, Join, Set}
 use Rattle.irc_crossing.specs.Changes.{renamed_now}
-use Rattle.irc_crossing.specs.Changes.{crossed, is_gone, member_now}
+use Rattle.irc_crossing.specs.Changes.{crossed, is_gone, join_behind, member_now}
 use Rattle.irc_crossing.specs.Changes.{gone_of, nick_now, setting_behind, taken_by}
 use Rattle.irc_crossing.specs.declared.setting.Setting.{Setting}
 use Rattle.irc_crossing.specs.Laws.{AreNames, AreOfTwo, IsPossible, MayGo, MayRename}
@@ -71,6 +71,7 @@ behind_out (Go one None) out channel nick = refl
 behind_out (Go one (Some other)) out channel nick = refl
 behind_out (Out other from) out channel nick =
     sym (out_keeps from nick (member_now (Out out channel) from other))
+behind_out (Join at begins) out channel nick = refl
 behind_out (Set setting) out channel nick =
     sym (set_keeps nick (setting_behind (Out out channel) setting))
 
@@ -95,6 +96,7 @@ behind_set (Rename old new) setting nick = by (same old new) refl
 behind_set (Go one None) setting nick = refl
 behind_set (Go one (Some other)) setting nick = refl
 behind_set (Out other from) setting nick = refl
+behind_set (Join at begins) setting nick = refl
 behind_set (Set other) setting nick = sym (set_keeps nick (setting_behind (Set setting) other))
 
 set_agrees : (ours : Change) (setting : Setting) (nick : List ℕ)
@@ -103,6 +105,49 @@ set_agrees ours setting nick =
     same_then (nick_after (crossed (Set setting) ours))
     (λ it. set_keeps it (setting_behind ours setting)) (nick_now ours nick)
     ∙ behind_set ours setting nick
+
+-- ---- and so does who comes to a channel
+
+if_keeps : (b : Bool) (one other : Option Change) (nick : List ℕ)
+    → nick_after one nick ≡ Some nick → nick_after other nick ≡ Some nick
+    → nick_after (if b then one else other) nick ≡ Some nick
+if_keeps true one other nick first second = first
+if_keeps false one other nick first second = second
+
+pub join_keeps : (channel : List ℕ) (begins : Bool) (ours : Change) (nick : List ℕ)
+    → nick_after (join_behind channel begins ours) nick ≡ Some nick
+join_keeps channel begins (Come other) nick = refl
+join_keeps channel begins (Rename old new) nick = refl
+join_keeps channel begins (Go one other) nick = refl
+join_keeps channel begins (Out other from) nick = refl
+join_keeps channel begins (Set setting) nick = refl
+join_keeps channel begins (Join at other) nick =
+    if_keeps (begins && same channel at) None (Some (Join channel begins)) nick refl refl
+
+behind_join : (ours : Change) (channel : List ℕ) (begins : Bool) (nick : List ℕ)
+    → nick_now ours nick ≡ nick_after (crossed ours (Join channel begins)) nick
+behind_join (Come other) channel begins nick = refl
+behind_join (Rename old new) channel begins nick = by (same old new) refl
+  where
+    by : (b : Bool) → same old new ≡ b → nick_now (Rename old new) nick
+        ≡ nick_after (crossed (Rename old new) (Join channel begins)) nick
+    by true is = search (rules, is)
+    by false is = search (rules, is)
+behind_join (Go one None) channel begins nick = refl
+behind_join (Go one (Some other)) channel begins nick = refl
+behind_join (Out other from) channel begins nick = refl
+behind_join (Join at other) channel begins nick =
+    sym (join_keeps at other (Join channel begins) nick)
+behind_join (Set setting) channel begins nick =
+    sym (set_keeps nick (setting_behind (Join channel begins) setting))
+
+join_agrees : (ours : Change) (channel : List ℕ) (begins : Bool) (nick : List ℕ)
+    → nick_behind_both (Join channel begins) ours nick
+    ≡ nick_behind_both ours (Join channel begins) nick
+join_agrees ours channel begins nick =
+    same_then (nick_after (crossed (Join channel begins) ours)) (join_keeps channel begins ours)
+    (nick_now ours nick)
+    ∙ behind_join ours channel begins nick
 
 -- ---- where two come, or one does
 
@@ -564,6 +609,14 @@ pub both_nicks_agree : (here : List ℕ → Bool) (theirs ours : Change) → Are
 both_nicks_agree here (Out out channel) ours names may other two n is =
     out_agrees ours out channel n
 both_nicks_agree here (Set setting) ours names may other two n is = set_agrees ours setting n
+both_nicks_agree here (Join channel begins) ours names may other two n is =
+    join_agrees ours channel begins n
+both_nicks_agree here (Come a) (Join channel begins) names may other two n is =
+    sym (join_agrees (Come a) channel begins n)
+both_nicks_agree here (Rename o w) (Join channel begins) names may other two n is =
+    sym (join_agrees (Rename o w) channel begins n)
+both_nicks_agree here (Go x y) (Join channel begins) names may other two n is =
+    sym (join_agrees (Go x y) channel begins n)
 both_nicks_agree here (Come a) (Set setting) names may other two n is =
     sym (set_agrees (Come a) setting n)
 both_nicks_agree here (Rename o w) (Set setting) names may other two n is =
@@ -637,4 +690,6 @@ newcomers_agree here a (Go x (Some y)) names free may =
     (free_of here names a x free may.one) (free_of here names a y free may.second)
 newcomers_agree here a (Out out channel) names free may =
     out_keeps channel a (member_now (Come a) channel out)
+newcomers_agree here a (Join channel begins) names free may =
+    join_keeps channel begins (Come a) a
 newcomers_agree here a (Set setting) names free may = set_keeps a (setting_behind (Come a) setting)

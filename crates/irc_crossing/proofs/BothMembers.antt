@@ -5,9 +5,9 @@ use Rattle.std.proofs.Common.{◌∙◌, ap, if◌then◌else◌, rules, true≢
 use Rattle.std.specs.Option.{option_and_then, option_map}
 use Rattle.irc_names.specs.Fold.{same}
 use Rattle.irc_crossing.specs.declared.change.Change.{Change}
-use Rattle.irc_crossing.specs.declared.change.Change.TheVariants.{Come, Rename, Go, Out, Set}
+use Rattle.irc_crossing.specs.declared.change.Change.TheVariants.{Come, Rename, Go, Out, Join, Set}
 use Rattle.irc_crossing.specs.Changes.{member_now}
-use Rattle.irc_crossing.specs.Changes.{are_met, behind, crossed, is_gone}
+use Rattle.irc_crossing.specs.Changes.{are_met, behind, crossed, is_gone, join_behind}
 use Rattle.irc_crossing.specs.Changes.{gone_of, nick_now, setting_behind, taken_by}
 use Rattle.irc_crossing.specs.declared.setting.Setting.{Setting}
 use Rattle.irc_crossing.specs.Laws.{AreNames, BothEndsAgree, IsPossible, MayRename}
@@ -75,6 +75,7 @@ behind_set_in (Rename old new) setting channel nick = by (same old new) refl
 behind_set_in (Go one None) setting channel nick = refl
 behind_set_in (Go one (Some other)) setting channel nick = refl
 behind_set_in (Out other from) setting channel nick = refl
+behind_set_in (Join at begins) setting channel nick = refl
 behind_set_in (Set other) setting channel nick =
     sym (set_keeps_members channel nick (setting_behind (Set setting) other))
 
@@ -88,6 +89,52 @@ set_members_agree ours setting channel nick =
         → option_and_then (member_after (crossed (Set setting) ours) channel) it ≡ it
     all_stay None = refl
     all_stay (Some it) = set_keeps_members channel it (setting_behind ours setting)
+
+-- ---- and so does who comes to a channel
+
+if_keeps_members : (b : Bool) (one other : Option Change) (channel nick : List ℕ)
+    → member_after one channel nick ≡ Some nick → member_after other channel nick ≡ Some nick
+    → member_after (if b then one else other) channel nick ≡ Some nick
+if_keeps_members true one other channel nick first second = first
+if_keeps_members false one other channel nick first second = second
+
+join_keeps_members : (at : List ℕ) (begins : Bool) (ours : Change) (channel nick : List ℕ)
+    → member_after (join_behind at begins ours) channel nick ≡ Some nick
+join_keeps_members at begins (Come other) channel nick = refl
+join_keeps_members at begins (Rename old new) channel nick = refl
+join_keeps_members at begins (Go one other) channel nick = refl
+join_keeps_members at begins (Out other from) channel nick = refl
+join_keeps_members at begins (Set setting) channel nick = refl
+join_keeps_members at begins (Join from other) channel nick =
+    if_keeps_members (begins && same at from) None (Some (Join at begins)) channel nick refl refl
+
+behind_join_in : (ours : Change) (at : List ℕ) (begins : Bool) (channel nick : List ℕ)
+    → member_now ours channel nick ≡ member_after (crossed ours (Join at begins)) channel nick
+behind_join_in (Come other) at begins channel nick = refl
+behind_join_in (Rename old new) at begins channel nick = by (same old new) refl
+  where
+    by : (b : Bool) → same old new ≡ b → member_now (Rename old new) channel nick
+        ≡ member_after (crossed (Rename old new) (Join at begins)) channel nick
+    by true is = search (rules, is)
+    by false is = search (rules, is)
+behind_join_in (Go one None) at begins channel nick = refl
+behind_join_in (Go one (Some other)) at begins channel nick = refl
+behind_join_in (Out other from) at begins channel nick = refl
+behind_join_in (Join from other) at begins channel nick =
+    sym (join_keeps_members from other (Join at begins) channel nick)
+behind_join_in (Set setting) at begins channel nick =
+    sym (set_keeps_members channel nick (setting_behind (Join at begins) setting))
+
+join_members_agree : (ours : Change) (at : List ℕ) (begins : Bool) (channel nick : List ℕ)
+    → member_behind_both (Join at begins) ours channel nick
+    ≡ member_behind_both ours (Join at begins) channel nick
+join_members_agree ours at begins channel nick =
+    all_stay (member_now ours channel nick) ∙ behind_join_in ours at begins channel nick
+  where
+    all_stay : (it : Option (List ℕ))
+        → option_and_then (member_after (crossed (Join at begins) ours) channel) it ≡ it
+    all_stay None = refl
+    all_stay (Some it) = join_keeps_members at begins ours channel it
 
 -- ---- one who is out of a channel, and another change
 
@@ -278,6 +325,15 @@ module _ (here : List ℕ → Bool) (names : AreNames here) (n : List ℕ) (is :
   members_agree (Out u c) (Go x y) may other nicks = out_go_agree u c x y
   members_agree (Out u c) (Out v d) may other nicks = out_out u c v d ch n
   members_agree (Set setting) ours may other nicks = set_members_agree ours setting ch n
+  members_agree (Join at begins) ours may other nicks = join_members_agree ours at begins ch n
+  members_agree (Come a) (Join at begins) may other nicks =
+      sym (join_members_agree (Come a) at begins ch n)
+  members_agree (Rename o w) (Join at begins) may other nicks =
+      sym (join_members_agree (Rename o w) at begins ch n)
+  members_agree (Go x y) (Join at begins) may other nicks =
+      sym (join_members_agree (Go x y) at begins ch n)
+  members_agree (Out u c) (Join at begins) may other nicks =
+      sym (join_members_agree (Out u c) at begins ch n)
   members_agree (Come a) (Set setting) may other nicks =
       sym (set_members_agree (Come a) setting ch n)
   members_agree (Rename o w) (Set setting) may other nicks =

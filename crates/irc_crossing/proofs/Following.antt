@@ -8,7 +8,7 @@ use Rattle.irc_names.specs.Fold.{same}
 use Rattle.irc_names.specs.FoldLaws.{same-tells}
 use Rattle.irc_names.specs.Names.{is_nick}
 use Rattle.irc_crossing.specs.declared.change.Change.{Change}
-use Rattle.irc_crossing.specs.declared.change.Change.TheVariants.{Come, Rename, Go, Out, Set}
+use Rattle.irc_crossing.specs.declared.change.Change.TheVariants.{Come, Rename, Go, Out, Join, Set}
 use Rattle.irc_crossing.specs.declared.hearing.Given.TheVariants.{AsItCame, LeftOut}
 use Rattle.irc_crossing.specs.declared.log.Entry.{Entry}
 use Rattle.irc_crossing.specs.declared.modes.ChannelModes.{ChannelModes}
@@ -122,6 +122,7 @@ goes (Rename nick other) new is = by (same nick other) refl
         (sym (ap (λ b. if b then None else Some other) apart) ∙ is)
 goes (Go nick other) new is = cc
 goes (Out nick channel) new is = cc
+goes (Join channel begins) new is = cc
 goes (Set setting) new is = cc
 
 same_turned : (one other : List ℕ) → same one other ≡ true → same other one ≡ true

@@ -11,6 +11,7 @@ returns c =
     let known = c.args.routes.now in
     let channel_told = told_if known c.args.link room in
     c.in_ok-tell_if.ensures
-    ∙ ap (λ lines. lines_now lines ++ map text (channel_told (option_copied c.channel.result))) c.new-lines.ensures.items
+    ∙ ap (λ lines. lines_now lines ++ map text (channel_told (option_copied c.channel.result)))
+    c.new-lines.ensures.items
     ∙ ap (λ channel. map text (channel_told channel)) c.channel.ensures
     ∙ ap (map text) (sym (channel_is_told room known c.args.link c.args.name.now))
