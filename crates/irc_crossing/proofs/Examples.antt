@@ -7,6 +7,8 @@ use Rattle.irc_line.specs.Reading.{read_of}
 use Rattle.irc_names.specs.Fold.{fold, fold_table}
 use Rattle.irc_modes.specs.Modes.{is_limit}
 use Rattle.irc_names.specs.Names.{is_ban_mask, is_channel, is_key, is_nick}
+use Rattle.irc_crossing.specs.Examples.{BegunIsAsked, BegunIsOne, EndedIsAsked, NextIsUnset}
+use Rattle.irc_crossing.specs.Examples.{OthersAreNotAsked}
 use Rattle.irc_crossing.specs.Examples.{GoneIsLeftOut, InviteIsLeftOut, KeyStays, KeyYields}
 use Rattle.irc_crossing.specs.Examples.{KickIsFollowed, KickIsSet, ModeIsSet, OperatorIsBrought}
 use Rattle.irc_crossing.specs.Examples.{OperatorStays, OthersStay, PrivateYields, TopicIsSet}
@@ -121,3 +123,23 @@ kick_is_set = refl
 pub operator_is_brought : OperatorIsBrought
 unfolding read_of is_nick is_channel fold fold_table line_text cut
 operator_is_brought = refl
+
+pub begun_is_one : BegunIsOne
+unfolding read_of is_nick is_channel fold fold_table line_text cut
+begun_is_one = refl
+
+pub next_is_unset : NextIsUnset
+unfolding read_of is_nick is_channel fold fold_table line_text cut
+next_is_unset = refl
+
+pub ended_is_asked : EndedIsAsked
+unfolding read_of is_nick is_channel fold fold_table
+ended_is_asked = record { out = refl; gone = refl; lost = refl; far = refl }
+
+pub begun_is_asked : BegunIsAsked
+unfolding read_of is_nick is_channel fold fold_table
+begun_is_asked = record { anew = refl; passed_on = refl }
+
+pub others_are_not_asked : OthersAreNotAsked
+unfolding read_of is_nick is_channel fold fold_table
+others_are_not_asked = record { held = refl; other = refl; told = refl }

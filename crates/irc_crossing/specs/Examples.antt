@@ -1,6 +1,7 @@
 -- Lines of wire that cross: the examples of `Changes.antt`, `Logs.antt` and `Hearing.antt`.
-use Rattle.std.specs.Prelude.{◌≡◌, ℕ, suc, true, false, Some, None, List, [], ◌∷◌, ◌++◌, codes}
+use Rattle.std.specs.Prelude.{◌≡◌, ℕ, suc, Bool, true, false, Option, Some, None, List, [], ◌∷◌, ◌++◌, codes}
 use Rattle.irc_line.specs.Bytes.{crlf}
+use Rattle.irc_crossing.specs.Asking.{asked}
 use Rattle.irc_crossing.specs.Hearing.{given, log_after, logged_of}
 use Rattle.irc_crossing.specs.Logs.{put_out, unread}
 use Rattle.irc_crossing.specs.declared.change.Change.TheVariants.{Go, Rename}
@@ -12,7 +13,8 @@ use Rattle.irc_crossing.specs.declared.log.Entry.{Entry}
 -- the log of an end that has put out these lines, each in a piece of its own from a number on
 abbrev pub log_of : ℕ → List (List ℕ) → List Entry → List Entry
 log_of piece [] log = log
-log_of piece (line ∷ lines) log = log_of (suc piece) lines (put_out piece (logged_of line) log)
+log_of piece (line ∷ lines) log =
+    log_of (suc piece) lines (put_out piece (logged_of false line) log)
 
 -- what a line is given as, where this one was put out
 abbrev pub given_after : (out line : List ℕ) → Given
@@ -125,6 +127,51 @@ begun line = line ++ 7 ∷ codes "o"
 abbrev pub OperatorIsBrought : Type 0
 OperatorIsBrought = given_after (begun (codes ":al JOIN #c")) (begun (codes ":bo JOIN #C"))
     ≡ Brings (codes "bo") (codes "#C")
+
+-- it is one from then on: what is set in it stays
+abbrev pub BegunIsOne : Type 0
+BegunIsOne = given (log_after (log_of 1 (begun (codes ":al JOIN #c") ∷ []) [])
+    (begun (codes ":bo JOIN #c"))) (codes "b.net") true (codes ":bo MODE #c +i") ≡ AsItCame
+
+-- ---- a channel that has ended at one end
+
+abbrev pub ended : List (List ℕ)
+ended = codes ":al KICK #c bo :out" ∷ codes ":al PART #c :bye" ∷ []
+
+abbrev pub begun_anew : List (List ℕ)
+begun_anew = ended ++ begun (codes ":ann JOIN #c") ∷ []
+
+-- nothing is set in the next channel of a name
+abbrev pub NextIsUnset : Type 0
+NextIsUnset =
+    given (log_of 1 begun_anew []) (codes "b.net") true (codes ":bo MODE #c +i") ≡ LeftOut
+
+-- the channel that is asked for, where these lines were put out
+abbrev pub asked_after : List (List ℕ) → Bool → List ℕ → Option (List ℕ)
+asked_after outs is_held line = asked (log_of 1 outs []) (codes "b.net") is_held line
+
+-- one that has ended here, by a PART, by a QUIT, or as a server was lost
+pub record EndedIsAsked : Type 0 where
+  pub out : asked_after ended false (codes ":bea JOIN #c") ≡ Some (codes "#c")
+  pub gone : asked_after (codes ":al QUIT :bye" ∷ []) false (codes ":bea JOIN #c")
+      ≡ Some (codes "#c")
+  pub lost : asked_after (codes ":a.net SQUIT c.net :a.net c.net" ∷ []) false
+      (codes ":bea JOIN #c") ≡ Some (codes "#c")
+  pub far : asked_after (codes ":al QUIT :bye" ∷ []) false (codes ":c.net NJOIN #c :cy")
+      ≡ Some (codes "#c")
+
+-- also where one has begun here since, of which an NJOIN that is passed on does not tell
+pub record BegunIsAsked : Type 0 where
+  pub anew : asked_after begun_anew true (codes ":bea JOIN #c") ≡ Some (codes "#c")
+  pub passed_on : asked (put_out 1 (logged_of true (codes ":c.net NJOIN #c :cy")) [])
+      (codes "b.net") true (codes ":bea JOIN #c") ≡ Some (codes "#c")
+
+-- not one that is here, nor one of which nothing was told; and none as the other end tells of all
+pub record OthersAreNotAsked : Type 0 where
+  pub held : asked_after ended true (codes ":bea JOIN #c") ≡ None
+  pub other : asked_after ended false (codes ":bea JOIN #d") ≡ None
+  pub told : asked_after (codes ":al QUIT :bye" ∷ []) false (codes ":b.net NJOIN #c :bea")
+      ≡ None
 
 -- ---- of whom a line is, and for whom
 

@@ -237,9 +237,9 @@ abbrev pub log_after : List Entry → List ℕ → List Entry
 log_after log line = log_after_read log (read_of line)
 
 -- what is logged of a line that this end puts out
-abbrev pub logged_in : Result Parsed LineFault → List (Option Change)
-logged_in (Ok message) = logged message
-logged_in (Err fault) = []
+abbrev pub logged_in : (begins : Bool) → Result Parsed LineFault → List (Option Change)
+logged_in begins (Ok message) = logged begins message
+logged_in begins (Err fault) = []
 
-abbrev pub logged_of : List ℕ → List (Option Change)
-logged_of line = logged_in (read_of line)
+abbrev pub logged_of : (begins : Bool) → List ℕ → List (Option Change)
+logged_of begins line = logged_in begins (read_of line)

@@ -1,1 +1,10 @@
 pub mod Asking
+pub mod Changes
+pub mod Examples
+pub mod Hearing
+pub mod Laws
+pub mod Letters
+pub mod Lines
+pub mod Logs
+pub mod Loops
+pub mod Settings

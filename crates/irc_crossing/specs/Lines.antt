@@ -107,10 +107,21 @@ channel_modes message = if is_mode_line message then modes_in message.params els
 
 -- ---- what is logged of a line: each thing that it changes
 
+-- A channel begins by what is passed on of a link's line, where it was not here before; an NJOIN
+-- does not say so, nor does a JOIN whose channel has ended here.
+abbrev pub begun_if : Bool → Change → Change
+begun_if is_begun (Join channel begins) = Join channel (is_begun || begins)
+begun_if is_begun (Come nick) = Come nick
+begun_if is_begun (Rename nick new) = Rename nick new
+begun_if is_begun (Go nick other) = Go nick other
+begun_if is_begun (Out nick channel) = Out nick channel
+begun_if is_begun (Set setting) = Set setting
+
 -- Of the loss of a server nothing is to be passed by what comes, but that it was put out: a channel
 -- may have ended by it.
-abbrev pub logged : Parsed → List (Option Change)
-logged message =
+abbrev pub logged : (begins : Bool) → Parsed → List (Option Change)
+logged begins message =
     if is_squit_line message then None ∷ []
     else option_map_or (λ (modes : ChannelModes). map (set_mode modes.channel) modes.changes)
-    (channel_modes message) (map (λ change. Some change) (option_to_list (change_of message)))
+    (channel_modes message)
+    (map (λ change. Some (begun_if begins change)) (option_to_list (change_of message)))

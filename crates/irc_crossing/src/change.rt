@@ -6,6 +6,7 @@ ghost use Rattle.irc_crossing.specs.Changes.{are_met, behind, both_go, crossed, 
 ghost use Rattle.irc_crossing.specs.Changes.{join_behind, member_now, mode_now, nick_now};
 ghost use Rattle.irc_crossing.specs.Changes.{renamed_now};
 ghost use Rattle.irc_crossing.specs.Changes.{setting_behind, setting_now, taken_by};
+ghost use Rattle.irc_crossing.specs.Lines.{begun_if};
 ghost use Rattle.irc_crossing.specs.Loops.Standings.{name_of};
 
 use crate::setting::Setting;
@@ -112,6 +113,19 @@ impl Change {
             Some(self.both_go())
         } else {
             self.behind(other)
+        }
+    }
+
+    /// The same, by which the channel begins, if any does.
+    pub(crate) fn begun_if(self, is_begun: bool) -> Change
+        ensures { result ≡ begun_if is_begun self }
+    {
+        match self {
+            Change::Join { channel, begins } => Change::Join {
+                channel,
+                begins: is_begun || begins,
+            },
+            other => other,
         }
     }
 

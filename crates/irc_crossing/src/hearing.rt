@@ -356,7 +356,7 @@ fn given_with(message: &Message<'_>, prefix: Option<&[u8]>, words: &[&[u8]]) -> 
     }
 }
 
-fn is_same_prefix(one: Option<&[u8]>, other: Option<&[u8]>) -> bool
+pub(crate) fn is_same_prefix(one: Option<&[u8]>, other: Option<&[u8]>) -> bool
     ensures { result ≡ is_same_prefix (optional_now one.entry) (optional_now other.entry) }
 {
     match (one, other) {

@@ -1,6 +1,8 @@
 //! What holds of lines that cross, whatever is in the log and whatever comes. Each law is a
 //! function that does nothing, and its contract is the law: the check proves it, and a crate above
 //! may cite it.
+ghost use Rattle.irc_crossing.specs.Examples.{BegunIsAsked, BegunIsOne, EndedIsAsked, NextIsUnset};
+ghost use Rattle.irc_crossing.specs.Examples.{OthersAreNotAsked};
 ghost use Rattle.irc_crossing.specs.Examples.{GoneIsLeftOut, InviteIsLeftOut, KeyStays};
 ghost use Rattle.irc_crossing.specs.Examples.{KeyYields, KickIsSet, ModeIsSet, OperatorIsBrought};
 ghost use Rattle.irc_crossing.specs.Examples.{OperatorStays, OthersStay, PrivateYields};
@@ -81,6 +83,15 @@ pub fn set_lines()
     ensures operator { OperatorStays }
     ensures others { OthersStay }
     ensures brought { OperatorIsBrought }
+    ensures one { BegunIsOne }
+{}
+
+/// A channel that has ended at this end while somebody came to it at the other.
+pub fn ended_channels()
+    ensures unset { NextIsUnset }
+    ensures ended { EndedIsAsked }
+    ensures begun { BegunIsAsked }
+    ensures others { OthersAreNotAsked }
 {}
 
 /// What somebody does who is gone.

@@ -3,18 +3,20 @@ ghost use Rattle.std.specs.Prelude.{◌≡◌, [], ◌∷◌, drop, length, map,
 ghost use Rattle.std.specs.Option.{option_copied};
 ghost use Rattle.irc_line.specs.MessageViews.{parsed};
 ghost use Rattle.irc_crossing.specs.Hearing.{logged_of};
+ghost use Rattle.irc_crossing.specs.Asking.{has_begun, has_taken_out, has_told_of};
 ghost use Rattle.irc_crossing.specs.Letters.{set_mode};
 ghost use Rattle.irc_crossing.specs.Lines.{logged};
 ghost use Rattle.irc_crossing.specs.Logs.{crossed_if, log_behind, means, means_in, member_behind};
 ghost use Rattle.irc_crossing.specs.Loops.Comers.{are_comers};
 ghost use Rattle.irc_crossing.specs.Logs.{is_first_read, nick_behind, put_out, through, unread};
 
+use crate::asking::{begins_by, takes_out, tells_of};
 use crate::change::Change;
 use crate::lines::change_of;
 use crate::modes::{ChannelModes, channel_modes, set_mode};
 use irc_line::{Message, parse};
 use irc_link_words::is_command;
-use irc_names::same;
+use irc_names::{ChannelName, same};
 use std::alloc::{AllocError, Global};
 use std::collections::VecDeque;
 use std::marker::Model;
@@ -82,21 +84,28 @@ impl Log {
         self.entries.clear();
     }
 
-    /// A line is put out in a piece, without its CR LF.
+    /// A line is put out in a piece, without its CR LF. `begins` is whether the channel begins to
+    /// which it brings somebody, where a line of a link is passed on that does not say so.
     ///
     /// # Errors
     /// Where memory runs out.
-    pub fn put_out(&mut self, piece: u64, line: &[u8]) -> Result<(), AllocError>
-        ensures { OnOk result (self.new ≡ put_out piece (logged_of line.now) self.old) }
+    pub fn put_out(&mut self, piece: u64, line: &[u8], begins: bool) -> Result<(), AllocError>
+        ensures { OnOk result (self.new ≡ put_out piece (logged_of begins line.now) self.old) }
     {
         match parse(line) {
-            Ok(message) => self.put_message(piece, &message),
+            Ok(message) => self.put_message(piece, &message, begins),
             Err(_) => Ok(()),
         }
     }
 
-    fn put_message(&mut self, piece: u64, message: &Message<'_>) -> Result<(), AllocError>
-        ensures { OnOk result (self.new ≡ put_out piece (logged (parsed message.now)) self.old) }
+    fn put_message(
+        &mut self,
+        piece: u64,
+        message: &Message<'_>,
+        begins: bool,
+    ) -> Result<(), AllocError>
+        ensures { OnOk result
+            (self.new ≡ put_out piece (logged begins (parsed message.now)) self.old) }
     {
         if is_command(b"SQUIT", message.command) {
             return self.push(piece, None);
@@ -104,7 +113,7 @@ impl Log {
         match channel_modes(self.alloc, message)? {
             Some(modes) => self.put_modes(piece, &modes),
             None => match change_of(message) {
-                Some(change) => self.push(piece, Some(change)),
+                Some(change) => self.push(piece, Some(change.begun_if(begins))),
                 None => Ok(()),
             },
         }
@@ -204,6 +213,33 @@ impl Log {
             now = next;
         }
         Some(now)
+    }
+
+    /// Whether a channel has begun by what was put out.
+    pub(crate) fn has_begun(&self, channel: &ChannelName) -> bool
+        ensures { result ≡ has_begun self.now channel.now }
+    {
+        self.entries
+            .iter()
+            .any(|entry| begins_by(channel, entry.change.as_ref()))
+    }
+
+    /// Whether it tells of a channel.
+    pub(crate) fn has_told_of(&self, channel: &ChannelName) -> bool
+        ensures { result ≡ has_told_of self.now channel.now }
+    {
+        self.entries
+            .iter()
+            .any(|entry| tells_of(channel, entry.change.as_ref()))
+    }
+
+    /// Whether it takes anybody out of all channels.
+    pub(crate) fn has_taken_out(&self) -> bool
+        ensures { result ≡ has_taken_out self.now }
+    {
+        self.entries
+            .iter()
+            .any(|entry| takes_out(entry.change.as_ref()))
     }
 }
 

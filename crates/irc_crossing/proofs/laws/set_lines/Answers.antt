@@ -1,4 +1,4 @@
-use Rattle.irc_crossing.proofs.Examples.{key_yields, operator_is_brought, operator_stays}
+use Rattle.irc_crossing.proofs.Examples.{begun_is_one, key_yields, operator_is_brought, operator_stays}
 use Rattle.irc_crossing.proofs.Examples.{others_stay, private_yields, topic_stays, topic_yields}
 use Rattle.irc_crossing.proofs.laws.set_lines.Goals as goal
 
@@ -19,6 +19,9 @@ returns-clause-operator c = operator_stays
 
 pub returns-clause-others : goal.returns-clause-others
 returns-clause-others c = others_stay
+
+pub returns-clause-one : goal.returns-clause-one
+returns-clause-one c = begun_is_one
 
 pub returns-clause-brought : goal.returns-clause-brought
 returns-clause-brought c = operator_is_brought
