@@ -6,7 +6,7 @@ use Rattle.irc_batch.specs.Batches.{Sent, line_on, line_to}
 use Rattle.irc_link_end.specs.declared.greeting.Greeting.TheVariants.{Whole}
 use Rattle.irc_layer.specs.declared.end.End.{End}
 use Rattle.irc_layer.specs.Ends.{Ends}
-use Rattle.irc_layer.specs.Layers.{by_event, by_setting}
+use Rattle.irc_layer.specs.Layers.{by_itself, by_line, by_setting}
 use Rattle.irc_layer.specs.Putting.{all_put}
 
 -- an end that counts pieces and has met the other one: it has read so many pieces, and told so many
@@ -42,7 +42,7 @@ on link line = line_on link (line ++ crlf)
 -- what was read is told in front of the first line, and what clients are told goes as it is
 abbrev pub CountIsInFront : Type 0
 CountIsInFront =
-    all_put (by_event None)
+    all_put by_itself
     (on 3 (codes ":al JOIN #c") ∷ line_to 1 (codes "hi") ∷ on 3 (codes ":al PART #c :bye")
     ∷ []) (two_links 5 3)
     ≡ on 3 (codes "COUNT 5 1") ∷ on 3 (codes ":al JOIN #c") ∷ line_to 1 (codes "hi")
@@ -51,7 +51,7 @@ CountIsInFront =
 -- servers that are lost together are one piece on each link
 abbrev pub LostServersAreOne : Type 0
 LostServersAreOne =
-    all_put (by_event None)
+    all_put by_itself
     (on 3 (codes ":a.net SQUIT c.net :x") ∷ on 4 (codes ":a.net SQUIT c.net :x")
     ∷ on 3 (codes ":a.net SQUIT d.net :x") ∷ on 4 (codes ":a.net SQUIT d.net :x")
     ∷ on 3 (codes ":al JOIN #c") ∷ []) (two_links 5 5)
@@ -62,7 +62,7 @@ LostServersAreOne =
 -- a KILL does not go back on the link by which the NICK came that it answers
 abbrev pub KillDoesNotGoBack : Type 0
 KillDoesNotGoBack =
-    all_put (by_event (Some 3))
+    all_put (by_line 3 false)
     (on 3 (codes ":a.net KILL zed :x") ∷ on 4 (codes ":a.net KILL zed :x") ∷ [])
     (two_links 5 5) ≡ on 4 (codes ":a.net KILL zed :x") ∷ []
 

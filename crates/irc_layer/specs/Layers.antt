@@ -4,13 +4,17 @@
 -- What becomes of an event:
 --   a client's, a link that begins or is lost    the server is given it
 --   a line of a piece that is not whole yet      the server is given nothing
---   a line that makes a piece whole              the server is given each line as it is meant here
+--   a line that makes a piece whole              the server is given each line as it is meant here,
+--                                                or the other end is told of the channel it asks of
 --   a count of more than was put out             the link is closed, and the server told so
 use Rattle.std.specs.Prelude.{◌≡◌, ℕ, Bool, true, false, Option, Some, None, Result, Ok, Err, List}
-use Rattle.std.specs.Prelude.{[], ◌∷◌, ◌++◌, is_some, unwrap_or}
+use Rattle.std.specs.Prelude.{[], ◌∷◌, ◌++◌, is_some, map, unwrap_or, if◌then◌else◌}
+use Rattle.std.specs.Option.{option_and_then}
 use Rattle.irc_line.specs.Messages.{text}
+use Rattle.irc_line.specs.Reading.{read_of}
 use Rattle.irc_batch.specs.declared.close_reason.CloseReason.{CloseReason}
-use Rattle.irc_batch.specs.Batches.{Batch, Sent, end_of_link}
+use Rattle.irc_batch.specs.Batches.{Batch, Sent, end_of_link, line_on}
+use Rattle.irc_burst_lines.specs.BurstLines.{channel_parts}
 use Rattle.irc_burst_lines.specs.DeedLines.{kill_parts, njoin_parts}
 use Rattle.irc_pieces.specs.declared.count.Mark.{Mark}
 use Rattle.irc_pieces.specs.declared.count.Mark.TheVariants.{Set}
@@ -20,6 +24,7 @@ use Rattle.irc_crossing.specs.declared.hearing.Given.{Given}
 use Rattle.irc_crossing.specs.declared.hearing.Given.TheVariants.{AsItCame, Changed, LeftOut}
 use Rattle.irc_crossing.specs.declared.hearing.Given.TheVariants.{Brings, Kills}
 use Rattle.irc_crossing.specs.declared.hearing.Given.TheVariants.{Sets as SetsLine}
+use Rattle.irc_crossing.specs.Asking.{asked}
 use Rattle.irc_crossing.specs.Hearing.{given}
 use Rattle.irc_stage.specs.View.{View}
 use Rattle.irc_server.specs.declared.event.Event.{Event}
@@ -32,10 +37,12 @@ use Rattle.irc_engine.specs.Machines.{is_out_of_memory, IsConnectedBy}
 use Rattle.irc_engine.specs.Noting.{far_of}
 use Rattle.irc_layer.specs.declared.end.Cause.{Cause}
 use Rattle.irc_layer.specs.declared.end.End.{End}
+use Rattle.irc_layer.specs.declared.holding.Brought.{Brought}
 use Rattle.irc_layer.specs.declared.layer.Layer.{Layer}
 use Rattle.irc_layer.specs.Ends.{change_end, end_at, end_hearing, ends_followed, heard_if, met_if}
 use Rattle.irc_layer.specs.Ends.{with_log_after, Ends}
-use Rattle.irc_layer.specs.Holding.{is_held}
+use Rattle.irc_layer.specs.Asking.{asked_of, tell_parts}
+use Rattle.irc_layer.specs.Holding.{brought_by, is_held, is_new}
 use Rattle.irc_layer.specs.Putting.{all_put, body, count_at, ends_behind_all, with_count_out}
 
 -- the server, the ends of its links, and the servers whose calls are without the word
@@ -70,18 +77,22 @@ putting more state = record state { outs = state.outs ++ more }
 
 -- ---- the server is given an event
 
--- why it puts something out: by an event, with the link by which the line came that it is
-abbrev pub by_event : Option ℕ → Cause
-by_event arrival = record { arrival = arrival; mark = None }
+-- why something is put out: by the layer itself, or by an event that is no line of a link
+abbrev pub by_itself : Cause
+by_itself = record { arrival = None; mark = None; begins = false }
+
+-- by a line of a link, and whether a channel begins by it
+abbrev pub by_line : ℕ → (begins : Bool) → Cause
+by_line link begins = record { arrival = Some link; mark = None; begins = begins }
 
 -- what the server puts out goes on
-pub record Passes (arrival : Option ℕ) (event : Event) (old new : State) : Type 0 where
+pub record Passes (cause : Cause) (event : Event) (old new : State) : Type 0 where
   pub outs : List Sent
   pub is_handled : IsHandled old.layer.server event [] (Ok tt) new.layer.server outs
-  pub ends_are : new.layer.ends ≡ ends_behind_all (by_event arrival) outs
+  pub ends_are : new.layer.ends ≡ ends_behind_all cause outs
       (ends_followed event old.layer.plain old.layer.ends)
   pub plain_is : new.layer.plain ≡ old.layer.plain
-  pub outs_are : new.outs ≡ old.outs ++ all_put (by_event arrival) outs
+  pub outs_are : new.outs ≡ old.outs ++ all_put cause outs
       (ends_followed event old.layer.plain old.layer.ends)
 
 -- the server refuses it, and nothing has changed
@@ -93,9 +104,9 @@ pub record IsRefusedBy (event : Event) (old new : State) (fault : ServerFault) :
   pub outs_stay : new.outs ≡ old.outs
 
 -- it is handled; or it is refused, for another reason than want of memory
-abbrev pub PassesOrNot : Bool → (arrival : Option ℕ) (event : Event) (old new : State) → Type 0
-PassesOrNot true arrival event old new = Passes arrival event old new
-PassesOrNot false arrival event old new = (fault : ServerFault) × (is_out_of_memory fault ≡ false)
+abbrev pub PassesOrNot : Bool → (cause : Cause) (event : Event) (old new : State) → Type 0
+PassesOrNot true cause event old new = Passes cause event old new
+PassesOrNot false cause event old new = (fault : ServerFault) × (is_out_of_memory fault ≡ false)
     × IsRefusedBy event old new fault
 
 -- who is connected by it, or that nothing has changed
@@ -117,18 +128,18 @@ meets link state =
 abbrev pub peer_of : Option View → ℕ → List ℕ
 peer_of server link = unwrap_or (far_of server link) []
 
--- the server is given a line
-pub record Gives (link : ℕ) (line : List ℕ) (old new : State) : Type 0 where
+-- the server is given a line, by which a channel begins, or none does
+pub record Gives (begins : Bool) (link : ℕ) (line : List ℕ) (old new : State) : Type 0 where
   pub between : State
   pub is_taken : Bool
-  pub passes : PassesOrNot is_taken (Some link) (LinkLine link (record { items = line })) old
-      between
+  pub passes : PassesOrNot is_taken (by_line link begins)
+      (LinkLine link (record { items = line })) old between
   pub new_is : new ≡ meets link between
 
 -- The server is told to set what a line of the server at the other end says; of a link that it does
 -- not know it is told nothing.
 abbrev pub by_setting : ℕ → Cause
-by_setting link = record { arrival = Some link; mark = Some Set }
+by_setting link = record { arrival = Some link; mark = Some Set; begins = false }
 
 pub record IsSet (link : ℕ) (line : List ℕ) (old new : State) : Type 0 where
   pub outs : List Sent
@@ -144,9 +155,9 @@ pub data Sets (link : ℕ) (line : List ℕ) (old new : State) : Type 0 where
       → Sets link line old new
 
 -- a line that is marked is set, another is given
-abbrev pub Does : Option Mark → ℕ → List ℕ → State → State → Type 0
-Does None link line old new = Gives link line old new
-Does (Some Set) link line old new = Sets link line old new
+abbrev pub Does : Option Mark → (begins : Bool) → ℕ → List ℕ → State → State → Type 0
+Does None begins link line old new = Gives begins link line old new
+Does (Some Set) begins link line old new = Sets link line old new
 
 -- A user comes to a channel as an operator, as the server at the other end tells it.
 abbrev pub member_by : List ℕ → (nick channel : List ℕ) → List ℕ
@@ -155,7 +166,8 @@ member_by peer nick channel = body (text (njoin_parts peer channel
 
 abbrev pub BringsBy : Option (List ℕ) → ℕ → (nick channel : List ℕ) → State → State → Type 0
 BringsBy None link nick channel old new = new ≡ old
-BringsBy (Some peer) link nick channel old new = Gives link (member_by peer nick channel) old new
+BringsBy (Some peer) link nick channel old new =
+    Gives false link (member_by peer nick channel) old new
 
 abbrev pub BringsOne : ℕ → (nick channel : List ℕ) → State → State → Type 0
 BringsOne link nick channel old new =
@@ -167,7 +179,7 @@ kill_by peer nick = body (text (kill_parts peer nick))
 
 abbrev pub GivesKillBy : Option (List ℕ) → ℕ → List ℕ → State → State → Type 0
 GivesKillBy None link nick old new = new ≡ old
-GivesKillBy (Some peer) link nick old new = Gives link (kill_by peer nick) old new
+GivesKillBy (Some peer) link nick old new = Gives false link (kill_by peer nick) old new
 
 abbrev pub GivesKill : ℕ → List ℕ → State → State → Type 0
 GivesKill link nick old new = GivesKillBy (far_of old.layer.server link) link nick old new
@@ -182,24 +194,68 @@ pub record GivesKills (link : ℕ) (nick : List ℕ) (other : Option (List ℕ))
   pub first : GivesKill link nick old between
   pub second : GivesKillIf link other between new
 
-abbrev pub GivesAs : Given → Option Mark → ℕ → List ℕ → State → State → Type 0
-GivesAs AsItCame mark link line old new = Does mark link line old new
-GivesAs (Changed text) mark link line old new = Does mark link (body text.items) old new
-GivesAs LeftOut mark link line old new = new ≡ old
-GivesAs (Kills nick other) mark link line old new = GivesKills link nick other old new
-GivesAs (Brings nick channel) mark link line old new = BringsOne link nick channel old new
-GivesAs (SetsLine text) mark link line old new = Sets link (body text.items) old new
+abbrev pub GivesAs : Given → Option Mark → (begins : Bool) → ℕ → List ℕ → State → State → Type 0
+GivesAs AsItCame mark begins link line old new = Does mark begins link line old new
+GivesAs (Changed text) mark begins link line old new =
+    Does mark begins link (body text.items) old new
+GivesAs LeftOut mark begins link line old new = new ≡ old
+GivesAs (Kills nick other) mark begins link line old new = GivesKills link nick other old new
+GivesAs (Brings nick channel) mark begins link line old new = BringsOne link nick channel old new
+GivesAs (SetsLine text) mark begins link line old new = Sets link (body text.items) old new
 
 -- what the server is given for a line of a piece; nothing where the link was closed before it
 abbrev pub given_at : Option End → (peer : List ℕ) → Bool → List ℕ → Given
 given_at None peer is_held line = LeftOut
 given_at (Some end) peer is_held line = given end.log peer is_held line
 
+-- ---- what the layer puts out itself
+
+-- lines on a link, each of which is a piece
+abbrev pub puts_out : ℕ → List (List ℕ) → State → State
+puts_out link lines state =
+    putting (all_put by_itself (map (line_on link) lines) state.layer.ends)
+    (with_ends (ends_behind_all by_itself (map (line_on link) lines) state.layer.ends) state)
+
+-- the other end is asked to tell of a channel, unless the link was closed by what it wrote
+abbrev pub asked_at : Option End → (peer : List ℕ) → (is_held : Bool) → List ℕ → Option (List ℕ)
+asked_at None peer is_held line = None
+asked_at (Some end) peer is_held line = asked end.log peer is_held line
+
+abbrev pub asking : Option (List ℕ) → ℕ → State → State
+asking None link state = state
+asking (Some channel) link state =
+    if is_some (state.layer.ends link) then puts_out link (text (tell_parts channel) ∷ []) state
+    else state
+
+-- and what is told of one
+abbrev pub told_of : Option View → ℕ → (channel : List ℕ) → List (List ℕ)
+told_of None link channel = []
+told_of (Some view) link channel = map text (channel_parts view.room view.routes link channel)
+
+-- ---- a line of a piece
+
+-- one that asks of no channel: what it brings decides how it is given, and whether this end asks
+abbrev pub brings : State → ℕ → List ℕ → Brought
+brings state link line = brought_by state.layer.server link (read_of line)
+
+pub record HearsOther (mark : Option Mark) (link : ℕ) (line : List ℕ) (old new : State)
+    : Type 0 where
+  pub between : State
+  pub is_given : GivesAs (given_at (old.layer.ends link) (peer_of old.layer.server link)
+      (is_held (brings old link line)) line) mark (is_new (brings old link line)) link line
+      (with_ends (change_end link (with_log_after line) old.layer.ends) old) between
+  pub new_is : new ≡ asking (asked_at (old.layer.ends link) (peer_of old.layer.server link)
+      (is_held (brings old link line)) line) link between
+
+abbrev pub HearsBy : (channel : Option (List ℕ)) → Option Mark → ℕ → List ℕ → State → State
+    → Type 0
+HearsBy None mark link line old new = HearsOther mark link line old new
+HearsBy (Some channel) mark link line old new =
+    new ≡ puts_out link (told_of old.layer.server link channel) old
+
 abbrev pub HearsOne : Option Mark → ℕ → List ℕ → State → State → Type 0
 HearsOne mark link line old new =
-    GivesAs (given_at (old.layer.ends link) (peer_of old.layer.server link)
-    (is_held old.layer.server link line) line) mark link line
-    (with_ends (change_end link (with_log_after line) old.layer.ends) old) new
+    HearsBy (option_and_then (asked_of line) (old.layer.ends link)) mark link line old new
 
 -- all lines of a piece, in order
 pub data HearsAll (mark : Option Mark) (link : ℕ) : List (List ℕ) → State → State → Type 0 where
@@ -228,7 +284,7 @@ closing false link reason = []
 pub record Shuts (link : ℕ) (reason : CloseReason) (old new : State) : Type 0 where
   pub between : State
   pub is_taken : Bool
-  pub passes : PassesOrNot is_taken None (LinkDown link) old between
+  pub passes : PassesOrNot is_taken by_itself (LinkDown link) old between
   pub new_is : new ≡ putting (closing is_taken link reason) between
 
 abbrev pub HearsAs : Heard → ℕ → State → State → Type 0
@@ -254,7 +310,7 @@ is_heard (Gone conn) ends = false
 
 pub data Handles (old : State) (event : Event) (new : State) : Result (Unit {0}) ServerFault
     → Type 0 where
-  passes : is_heard event old.layer.ends ≡ false → Passes None event old new
+  passes : is_heard event old.layer.ends ≡ false → Passes by_itself event old new
       → Handles old event new (Ok tt)
   hears : (link : ℕ) (line : List ℕ) → event ≡ LinkLine link (record { items = line })
       → is_some (old.layer.ends link) ≡ true → HearsIf (old.layer.ends link) link line old new

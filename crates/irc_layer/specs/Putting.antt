@@ -122,14 +122,14 @@ abbrev pub with_room : List Entry → List Entry
 with_room log = if nat_le 1048576 (length log) then [] else log
 
 -- a line of it is in the log from now on, by the number of its piece
-abbrev pub with_logged : List ℕ → End → End
-with_logged line end = record end {
+abbrev pub with_logged : (begins : Bool) → List ℕ → End → End
+with_logged begins line end = record end {
   left = end.left - 1;
-  log = put_out end.link.pieces.counts.sent (logged_of (body line)) (with_room end.log);
+  log = put_out end.link.pieces.counts.sent (logged_of begins (body line)) (with_room end.log);
 }
 
-abbrev pub behind_piece : ℕ → List ℕ → End → End
-behind_piece lines line end = with_logged line (with_begun lines end)
+abbrev pub behind_piece : (begins : Bool) → ℕ → List ℕ → End → End
+behind_piece begins lines line end = with_logged begins line (with_begun lines end)
 
 -- `lines` is how many lines a piece has that begins here
 abbrev pub out_by : WayOut → Cause → ℕ → ℕ → List ℕ → End → List Sent
@@ -141,7 +141,7 @@ out_by InPiece cause link lines line end =
 
 abbrev pub end_by : WayOut → Cause → ℕ → ℕ → List ℕ → End → End
 end_by InPiece cause link lines line end =
-    if is_echo cause link (body line) then end else behind_piece lines line end
+    if is_echo cause link (body line) then end else behind_piece cause.begins lines line end
 end_by Plain cause link lines line end = end
 end_by WithWord cause link lines line end = end
 

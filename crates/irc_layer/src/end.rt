@@ -3,20 +3,23 @@ ghost use Rattle.std.specs.Prelude.{◌≡◌, ◌++◌, ◌≤◌, length, IfOk
 ghost use Rattle.std.specs.Option.{option_copied};
 ghost use Rattle.irc_line.specs.Limits.{max_text};
 ghost use Rattle.irc_line.specs.Reading.{read_of};
+ghost use Rattle.irc_crossing.specs.Asking.{asked};
 ghost use Rattle.irc_crossing.specs.Hearing.{given};
 ghost use Rattle.irc_link_end.specs.LinkEnds.{heard_at};
+ghost use Rattle.irc_layer.specs.Asking.{asked_of};
 ghost use Rattle.irc_layer.specs.Ends.{end_hearing, is_plain, met_if, new_end, with_log_after};
 ghost use Rattle.irc_layer.specs.Putting.{behind_line, behind_piece, body, count_at, count_before};
 ghost use Rattle.irc_layer.specs.Putting.{count_out, is_echo, is_kick_read, is_kill_read, is_squit};
 ghost use Rattle.irc_layer.specs.Putting.{is_unspoken, line_out};
 ghost use Rattle.irc_layer.specs.Putting.{piece_out, with_begun, with_count_out, with_room};
 
+use crate::asking::asked_by;
 use irc_batch::Batch;
 use irc_crossing::{Given, Log};
 use irc_line::{Line, parse};
 use irc_link_end::{LinkEnd, WayOut, with_word};
 use irc_link_words::is_command;
-use irc_names::{ServerName, same};
+use irc_names::{ChannelName, ServerName, same};
 use irc_pieces::{Count, Heard, Mark, count_text};
 use std::alloc::{AllocError, Global};
 
@@ -41,7 +44,16 @@ pub(crate) struct Cause {
     pub arrival: Option<u64>,
     /// What the lines say beside themselves that it puts out on links.
     pub mark: Option<Mark>,
+    /// Whether a channel begins by that line, if one does by a line that does not say so.
+    pub begins: bool,
 }
+
+/// The layer itself puts it out, or the server by an event that is no line of a link.
+pub(crate) const BY_ITSELF: Cause = Cause {
+    arrival: None,
+    mark: None,
+    begins: false,
+};
 
 /// On which link a line goes, and how many lines a piece has that begins with it.
 #[derive(Clone, Copy, Drop)]
@@ -93,6 +105,24 @@ impl End {
         self.log.hear(line, peer, is_held)
     }
 
+    /// The channel that the other end is asked to tell of upon a line; see [`Log::asked`].
+    pub fn asks(&self, line: &[u8], peer: &[u8], is_held: bool) -> Option<ChannelName>
+        ensures { result ≡ asked self.log.now peer.now is_held line.now }
+    {
+        self.log.asked(line, peer, is_held)
+    }
+
+    /// The channel that the other end asks of by a line, where both ends count pieces.
+    pub fn asked(&self, line: &[u8]) -> Option<ChannelName>
+        ensures { result ≡ asked_of line.now self.now }
+    {
+        if self.link.is_met() && self.link.counts() {
+            asked_by(line)
+        } else {
+            None
+        }
+    }
+
     /// The other end has named itself, if it has.
     pub fn meet_if(&mut self, is_met: bool)
         ensures { self.new ≡ met_if is_met self.old }
@@ -124,27 +154,29 @@ impl End {
             WayOut::Plain => out.put_on(to.link, line),
             WayOut::WithWord => out.put_on(to.link, with_word(body(line)).as_slice()),
             WayOut::InPiece if is_echo(cause, to.link, body(line)) => Ok(()),
-            WayOut::InPiece => self.put_piece(cause.mark, to, line, out),
+            WayOut::InPiece => self.put_piece(cause, to, line, out),
         }
     }
 
     /// Puts out a line of a piece.
     fn put_piece(
         &mut self,
-        mark: Option<Mark>,
+        cause: Cause,
         to: PieceOn,
         line: &[u8],
         out: &mut Batch,
     ) -> Result<(), AllocError>
         requires fits { length line.now ≤ max_text }
         ensures outs { OnOk result (out.new.outs
-            ≡ out.old.outs ++ piece_out mark to.link to.lines line.now self.old) }
-        ensures after { OnOk result (self.new ≡ behind_piece to.lines line.now self.old) }
+            ≡ out.old.outs ++ piece_out cause.mark to.link to.lines line.now self.old) }
+        ensures after { OnOk result
+            (self.new ≡ behind_piece cause.begins to.lines line.now self.old) }
     {
-        self.begin(mark, to, out)?;
+        self.begin(cause.mark, to, out)?;
         self.left = self.left.saturating_sub(1);
         self.make_room();
-        self.log.put_out(self.link.sent(), body(line))?;
+        self.log
+            .put_out(self.link.sent(), body(line), cause.begins)?;
         out.put_on(to.link, line)
     }
 

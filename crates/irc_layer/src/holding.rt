@@ -1,30 +1,71 @@
-//! Whether what a line brings is there already.
+//! What a line brings, and whether that is there already.
 ghost use Rattle.std.specs.Prelude.{◌≡◌};
 ghost use Rattle.irc_line.specs.MessageViews.{parsed};
+ghost use Rattle.irc_line.specs.Reading.{read_of};
 ghost use Rattle.irc_crossing.specs.Lines.{word_at};
-ghost use Rattle.irc_layer.specs.Holding.{is_channel_at, is_held, is_held_at, is_held_in};
+ghost use Rattle.irc_layer.specs.Holding.{brought, brought_by, is_channel_at, is_held_at};
+ghost use Rattle.irc_layer.specs.Holding.{is_held, is_held_in, is_new, whether_held};
 
 use irc_line::{Message, parse};
 use irc_link_reader::{Arrival, is_far};
 use irc_link_words::{is_command, unmarked};
 use irc_server::Server;
 
-/// Whether what a line brings that comes by a link is there already: somebody who is not behind the
-/// link has the nickname of a NICK, or the channel of a JOIN is there.
-pub(crate) fn is_held(server: &Server, link: u64, line: &[u8]) -> bool
-    ensures { result ≡ is_held server.now link line.now }
-{
-    match parse(line) {
-        Ok(message) => {
-            (is_command(b"NICK", message.command) && is_held_at(server, link, first_word(&message)))
-                || (is_command(b"JOIN", message.command)
-                    && is_channel_at(server, unmarked(first_word(&message))))
-        }
-        Err(_) => false,
+/// What a line brings that comes by a link: the nickname of a NICK, or somebody to the channel of a
+/// JOIN or NJOIN.
+#[derive(Clone, Copy, Drop)]
+pub(crate) enum Brought {
+    /// Neither.
+    Nothing,
+    /// Somebody who is not behind the link has the nickname, or the channel is there.
+    Held,
+    /// That is not so.
+    New,
+}
+
+impl Brought {
+    pub fn is_held(self) -> bool
+        ensures { result ≡ is_held self }
+    {
+        matches!(self, Brought::Held)
+    }
+
+    pub fn is_new(self) -> bool
+        ensures { result ≡ is_new self }
+    {
+        matches!(self, Brought::New)
     }
 }
 
-fn first_word<'a>(message: &Message<'a>) -> &'a [u8]
+/// What a line brings that comes by a link.
+pub(crate) fn brought(server: &Server, link: u64, line: &[u8]) -> Brought
+    ensures { result ≡ brought_by server.now link (read_of line.now) }
+{
+    match parse(line) {
+        Ok(message) => brought_in(server, link, &message),
+        Err(_) => Brought::Nothing,
+    }
+}
+
+fn brought_in(server: &Server, link: u64, message: &Message<'_>) -> Brought
+    ensures { result ≡ brought server.now link (parsed message.now) }
+{
+    if is_command(b"NICK", message.command) {
+        whether_held(is_held_at(server, link, first_word(message)))
+    } else if is_command(b"JOIN", message.command) || is_command(b"NJOIN", message.command) {
+        whether_held(is_channel_at(server, unmarked(first_word(message))))
+    } else {
+        Brought::Nothing
+    }
+}
+
+fn whether_held(is_held: bool) -> Brought
+    ensures { result ≡ whether_held is_held }
+{
+    if is_held { Brought::Held } else { Brought::New }
+}
+
+pub(crate) fn first_word<'a>(message: &Message<'a>) -> &'a [u8]
     ensures { result.now ≡ word_at 0 (parsed message.now) }
 {
     match message.params.as_slice().get(0) {

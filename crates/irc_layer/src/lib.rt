@@ -3,7 +3,9 @@
 //! the server is given it as it is meant here. Definitions are in `specs/`.
 #![tactic(auto)]
 
+mod asking;
 mod end;
+mod giving;
 mod holding;
 pub mod laws;
 mod layer;

@@ -1,0 +1,421 @@
+//! What comes of a line of a piece: what the server is given for it, and what the other end is asked
+//! or told.
+ghost use Rattle.std.specs.Prelude.{◌≡◌, ◌++◌, is_some, false, map, None, IfOk, OnOk};
+ghost use Rattle.std.specs.Option.{option_and_then, option_copied};
+ghost use Rattle.irc_batch.specs.Batches.{line_on};
+ghost use Rattle.irc_burst_lines.specs.Loops.Telling.{lines_now, told_member};
+ghost use Rattle.irc_engine.specs.Machines.{is_out_of_memory, IsStillConnected};
+ghost use Rattle.irc_engine.specs.Noting.{far_of};
+ghost use Rattle.irc_layer.specs.Asking.{asked_of};
+ghost use Rattle.irc_layer.specs.Ends.{change_end, end_at, met_if, with_log_after};
+ghost use Rattle.irc_layer.specs.Layers.{asked_at, asking, given_at, peer_of, puts_out, state_of};
+ghost use Rattle.irc_layer.specs.Layers.{told_of, BringsOne, Does, Gives, GivesAs, GivesKill};
+ghost use Rattle.irc_layer.specs.Layers.{GivesKills, HearsOne, HearsOther, Sets};
+ghost use Rattle.irc_layer.specs.Putting.{body};
+
+use crate::asking::tell_text;
+use crate::end::{BY_ITSELF, Cause, body};
+use crate::holding::brought;
+use crate::layer::Layer;
+use crate::putting::{Ends, put_all};
+use irc_batch::Batch;
+use irc_burst_lines::{channel_burst, kill_text, njoin_text};
+use irc_channels::Flags;
+use irc_crossing::Given;
+use irc_line::{Line, Text};
+use irc_link_reader::NewMember;
+use irc_names::{ChannelName, Nick, ServerName, copied};
+use irc_pieces::Mark;
+use irc_server::{Event, Server, ServerFault};
+use std::alloc::{AllocError, Global};
+
+/// The number that each server has for itself on a link (RFC 2813 section 4.1.2).
+const ITS_OWN: u32 = 1;
+
+/// A line of a piece that has come.
+#[derive(Clone, Copy, Drop)]
+struct Arrived {
+    link: u64,
+    /// What the piece says beside its lines.
+    mark: Option<Mark>,
+    /// Whether a channel begins by it.
+    begins: bool,
+}
+
+impl Arrived {
+    /// One by which no channel begins, on a link.
+    fn on(link: u64) -> Self
+        ensures { result ≡ record { link = link; mark = None; begins = false } }
+    {
+        Arrived {
+            link,
+            mark: None,
+            begins: false,
+        }
+    }
+}
+
+impl Layer {
+    /// A line of a piece has come.
+    pub(crate) fn hear_one(
+        &mut self,
+        mark: Option<Mark>,
+        link: u64,
+        line: Line,
+        out: &mut Batch,
+    ) -> Result<(), AllocError>
+        ensures heard { OnOk result (HearsOne mark link line.items (state_of self.old out.old)
+            (state_of self.new out.new)) }
+        ensures connected { OnOk result (IsStillConnected self.old.server out.old.outs
+            self.new.server out.new.outs) }
+    {
+        match asked_at(&self.ends, link, line.as_slice()) {
+            Some(channel) => self.tell_of(link, &channel, out),
+            None => self.hear_other(mark, link, line, out),
+        }
+    }
+
+    /// A line has come that asks of no channel: what the server is given for it, and what is asked
+    /// behind that. Where the link was closed before it, it is left out.
+    fn hear_other(
+        &mut self,
+        mark: Option<Mark>,
+        link: u64,
+        line: Line,
+        out: &mut Batch,
+    ) -> Result<(), AllocError>
+        ensures heard { OnOk result (HearsOther mark link line.items (state_of self.old out.old)
+            (state_of self.new out.new)) }
+        ensures connected { OnOk result (IsStillConnected self.old.server out.old.outs
+            self.new.server out.new.outs) }
+    {
+        let it = brought(&self.server, link, line.as_slice());
+        let peer = peer_of(&self.server, link);
+        let channel = asks_at(&self.ends, link, line.as_slice(), peer, it.is_held());
+        let given = give_at(&mut self.ends, link, line.as_slice(), peer, it.is_held())?;
+        let from = Arrived {
+            link,
+            mark,
+            begins: it.is_new(),
+        };
+        self.do_given(from, given, line, out)?;
+        self.ask_of(link, channel, out)
+    }
+
+    /// The server is given what is given for a line.
+    fn do_given(
+        &mut self,
+        from: Arrived,
+        given: Given,
+        line: Line,
+        out: &mut Batch,
+    ) -> Result<(), AllocError>
+        ensures heard { OnOk result (GivesAs given from.mark from.begins from.link line.items
+            (state_of self.old out.old) (state_of self.new out.new)) }
+        ensures connected { OnOk result (IsStillConnected self.old.server out.old.outs
+            self.new.server out.new.outs) }
+    {
+        match given {
+            Given::AsItCame => self.do_line(from, line, out),
+            Given::Changed(text) => self.do_line(from, line_of(&text), out),
+            Given::LeftOut => Ok(()),
+            Given::Kills(nick, other) => self.give_kills(from.link, &nick, other.as_ref(), out),
+            Given::Brings(nick, channel) => self.bring(from.link, nick, &channel, out),
+            Given::Sets(text) => self.set(from.link, line_of(&text), out),
+        }
+    }
+
+    /// The other end is asked to tell of a channel, if there is one, unless the link was closed by
+    /// what it wrote.
+    fn ask_of(
+        &mut self,
+        link: u64,
+        channel: Option<ChannelName>,
+        out: &mut Batch,
+    ) -> Result<(), AllocError>
+        ensures asks { OnOk result (state_of self.new out.new
+            ≡ asking channel link (state_of self.old out.old)) }
+        ensures connected { OnOk result (IsStillConnected self.old.server out.old.outs
+            self.new.server out.new.outs) }
+    {
+        match channel {
+            Some(channel) if self.ends.contains_key(&link) => {
+                self.put_out(link, &[tell_text(&channel)], out)
+            }
+            _ => Ok(()),
+        }
+    }
+
+    /// The other end is told of a channel.
+    fn tell_of(
+        &mut self,
+        link: u64,
+        channel: &ChannelName,
+        out: &mut Batch,
+    ) -> Result<(), AllocError>
+        ensures tells { OnOk result (state_of self.new out.new ≡ puts_out link
+            (told_of self.old.server link channel.now) (state_of self.old out.old)) }
+        ensures connected { OnOk result (IsStillConnected self.old.server out.old.outs
+            self.new.server out.new.outs) }
+    {
+        let lines = told_of(self.alloc, &self.server, link, channel)?;
+        self.put_out(link, lines.as_slice(), out)
+    }
+
+    /// The layer puts out lines of its own on a link.
+    fn put_out(&mut self, link: u64, lines: &[Text], out: &mut Batch) -> Result<(), AllocError>
+        ensures puts { OnOk result (state_of self.new out.new
+            ≡ puts_out link (lines_now lines.now) (state_of self.old out.old)) }
+        ensures connected { OnOk result (IsStillConnected self.old.server out.old.outs
+            self.new.server out.new.outs) }
+    {
+        self.held.clear();
+        hold_all(&mut self.held, link, lines)?;
+        put_all(&mut self.ends, BY_ITSELF, &mut self.held, out)
+    }
+
+    /// The server does what a line says: one that is marked is set, another is given.
+    fn do_line(&mut self, from: Arrived, line: Line, out: &mut Batch) -> Result<(), AllocError>
+        ensures heard { OnOk result
+            (Does from.mark from.begins from.link line.items (state_of self.old out.old)
+            (state_of self.new out.new)) }
+        ensures connected { OnOk result (IsStillConnected self.old.server out.old.outs
+            self.new.server out.new.outs) }
+    {
+        match from.mark {
+            Some(Mark::Set) => self.set(from.link, line, out),
+            None => self.give(from, line, out),
+        }
+    }
+
+    /// The server is told to set what a line says of the server at the other end.
+    fn set(&mut self, link: u64, line: Line, out: &mut Batch) -> Result<(), AllocError>
+        ensures heard { OnOk result
+            (Sets link line.items (state_of self.old out.old) (state_of self.new out.new)) }
+        ensures connected { OnOk result (IsStillConnected self.old.server out.old.outs
+            self.new.server out.new.outs) }
+    {
+        irc_server::laws::who_is_connected_behind();
+        self.held.clear();
+        match self.server.set(link, &line, &mut self.held) {
+            Ok(()) => {
+                let cause = Cause {
+                    arrival: Some(link),
+                    mark: Some(Mark::Set),
+                    begins: false,
+                };
+                put_all(&mut self.ends, cause, &mut self.held, out)
+            }
+            Err(fault) if is_out_of_memory(fault) => Err(AllocError),
+            Err(_) => Ok(()),
+        }
+    }
+
+    /// A user comes to a channel as an operator, as the server at the other end tells it.
+    fn bring(
+        &mut self,
+        link: u64,
+        nick: Nick,
+        channel: &ChannelName,
+        out: &mut Batch,
+    ) -> Result<(), AllocError>
+        ensures heard { OnOk result (BringsOne link nick channel.now
+            (state_of self.old out.old) (state_of self.new out.new)) }
+        ensures connected { OnOk result (IsStillConnected self.old.server out.old.outs
+            self.new.server out.new.outs) }
+    {
+        let Some(peer) = self.far(link) else {
+            return Ok(());
+        };
+        let line = line_of(&njoin_text(peer, channel, &[operator(nick)]));
+        self.give(Arrived::on(link), line, out)
+    }
+
+    /// The server is given a line.
+    fn give(&mut self, from: Arrived, line: Line, out: &mut Batch) -> Result<(), AllocError>
+        ensures heard { OnOk result (Gives from.begins from.link line.items
+            (state_of self.old out.old) (state_of self.new out.new)) }
+        ensures connected { OnOk result (IsStillConnected self.old.server out.old.outs
+            self.new.server out.new.outs) }
+    {
+        let cause = Cause {
+            arrival: Some(from.link),
+            mark: None,
+            begins: from.begins,
+        };
+        self.pass_if_taken(cause, &Event::LinkLine(from.link, line), out)?;
+        self.meet(from.link);
+        Ok(())
+    }
+
+    /// An end is met once the server knows who is at the other one.
+    fn meet(&mut self, link: u64)
+        ensures server { self.new.server ≡ self.old.server }
+        ensures plain { self.new.plain ≡ self.old.plain }
+        ensures ends { end_at self.new.ends ≡ change_end link
+            (met_if (is_some (far_of self.old.server link))) (end_at self.old.ends) }
+    {
+        let is_met = self.far(link).is_some();
+        meet_at(&mut self.ends, link, is_met);
+    }
+
+    /// The server that is known at the other end of a link.
+    fn far(&self, link: u64) -> Option<&ServerName>
+        ensures { option_copied result ≡ far_of self.now.server link }
+    {
+        far_at(&self.server, link)
+    }
+
+    /// Two users of one nickname are killed, or one.
+    fn give_kills(
+        &mut self,
+        link: u64,
+        nick: &Nick,
+        other: Option<&Nick>,
+        out: &mut Batch,
+    ) -> Result<(), AllocError>
+        ensures heard { OnOk result
+            (GivesKills link nick.now (option_copied other.entry) (state_of self.old out.old)
+            (state_of self.new out.new)) }
+        ensures connected { OnOk result (IsStillConnected self.old.server out.old.outs
+            self.new.server out.new.outs) }
+    {
+        self.give_kill(link, nick, out)?;
+        match other {
+            Some(other) => self.give_kill(link, other, out),
+            None => Ok(()),
+        }
+    }
+
+    /// A user is killed, as by the server at the other end.
+    fn give_kill(&mut self, link: u64, nick: &Nick, out: &mut Batch) -> Result<(), AllocError>
+        ensures heard { OnOk result
+            (GivesKill link nick.now (state_of self.old out.old) (state_of self.new out.new)) }
+        ensures connected { OnOk result (IsStillConnected self.old.server out.old.outs
+            self.new.server out.new.outs) }
+    {
+        let Some(peer) = self.far(link) else {
+            return Ok(());
+        };
+        let line = line_of(&kill_text(peer, nick));
+        self.give(Arrived::on(link), line, out)
+    }
+}
+
+/// Whether memory ran out, now or before.
+fn is_out_of_memory(fault: ServerFault) -> bool
+    ensures { result ≡ is_out_of_memory fault }
+{
+    matches!(fault, ServerFault::Memory | ServerFault::Failed)
+}
+
+/// The channel that the other end of a link asks of by a line.
+fn asked_at(ends: &Ends, link: u64, line: &[u8]) -> Option<ChannelName>
+    ensures { result ≡ option_and_then (asked_of line.now) (end_at ends.now link) }
+{
+    ends.get(&link)?.asked(line)
+}
+
+/// The channel of which the other end is to be asked upon a line.
+fn asks_at(ends: &Ends, link: u64, line: &[u8], peer: &[u8], is_held: bool) -> Option<ChannelName>
+    ensures { result ≡ asked_at (end_at ends.now link) peer.now is_held line.now }
+{
+    ends.get(&link)?.asks(line, peer, is_held)
+}
+
+/// What the other end of a link is told of a channel.
+fn told_of(
+    alloc: Global,
+    server: &Server,
+    link: u64,
+    channel: &ChannelName,
+) -> Result<Vec<Text, Global>, AllocError>
+    ensures { IfOk result
+        (λ lines. lines_now lines.items ≡ told_of server.now link channel.now) }
+{
+    match (server.room(), server.routes()) {
+        (Some(room), Some(routes)) => {
+            channel_burst(alloc, room, routes, link, channel.as_bytes())
+        }
+        _ => Ok(Vec::new(alloc)),
+    }
+}
+
+/// Lines are to be put out on a link, behind what is.
+fn hold_all(held: &mut Batch, link: u64, lines: &[Text]) -> Result<(), AllocError>
+    ensures { OnOk result
+        (held.new.outs ≡ held.old.outs ++ map (line_on link) (lines_now lines.now)) }
+{
+    for line in lines {
+        held.put_on(link, line.as_slice())?;
+    }
+    Ok(())
+}
+
+/// What the server is given for a line; nothing where the link has no end.
+fn give_at(
+    ends: &mut Ends,
+    link: u64,
+    line: &[u8],
+    peer: &[u8],
+    is_held: bool,
+) -> Result<Given, AllocError>
+    ensures given { IfOk result (λ given. given
+        ≡ given_at (end_at ends.old link) peer.now is_held line.now) }
+    ensures ends { OnOk result (end_at ends.new
+        ≡ change_end link (with_log_after line.now) (end_at ends.old)) }
+{
+    match ends.get_mut(&link) {
+        Some(end) => end.give(line, peer, is_held),
+        None => Ok(Given::LeftOut),
+    }
+}
+
+/// The name of the server at the other end of a link; no bytes where it is not known.
+fn peer_of(server: &Server, link: u64) -> &[u8]
+    ensures { result.now ≡ peer_of server.now link }
+{
+    match far_at(server, link) {
+        Some(name) => name.as_bytes(),
+        None => &[],
+    }
+}
+
+/// The server that is known at the other end of a link.
+fn far_at(server: &Server, link: u64) -> Option<&ServerName>
+    ensures { option_copied result ≡ far_of server.now link }
+{
+    match server.routes() {
+        Some(routes) => routes.token_in(link, ITS_OWN),
+        None => None,
+    }
+}
+
+/// A member that comes as an operator.
+fn operator(nick: Nick) -> NewMember
+    ensures { told_member result ≡ (nick, record { op = true; voice = false }) }
+{
+    NewMember {
+        nick,
+        flags: Flags {
+            op: true,
+            voice: false,
+        },
+    }
+}
+
+/// The other end of a link has named itself, if it has.
+fn meet_at(ends: &mut Ends, link: u64, is_met: bool)
+    ensures { end_at ends.new ≡ change_end link (met_if is_met) (end_at ends.old) }
+{
+    if let Some(end) = ends.get_mut(&link) {
+        end.meet_if(is_met);
+    }
+}
+
+/// A line without its CR LF.
+fn line_of(text: &Text) -> Line
+    ensures { result.items ≡ body text.now.items }
+{
+    copied(body(text.as_slice()))
+}
