@@ -1,6 +1,6 @@
 -- What a layer puts out closes just whom its server closes: what it adds is lines on links.
 use Rattle.std.proofs.Common.{◌≡◌, ℕ, Bool, true, false, ◌||◌, Option, Some, None, List, [], ◌∷◌}
-use Rattle.std.proofs.Common.{refl, sym, ◌∙◌, ap, nat_eq, if◌then◌else◌}
+use Rattle.std.proofs.Common.{refl, sym, ◌∙◌, ap, map, nat_eq, if◌then◌else◌}
 use Rattle.std.specs.List.{list_any}
 use Rattle.std.proofs.lemmas.List.Folds.{list_any-append}
 use Rattle.irc_batch.specs.Batches.{Sent, end_of, end_of_link, line_on, line_to}
@@ -71,6 +71,11 @@ module _ (test : Sent → Bool) (none : (link : ℕ) (line : List ℕ) → test 
     line_fails cause link lines line None = one_fails link line
     line_fails cause link lines line (Some end) =
         out_fails (way_out end.link) cause link lines line (with_line_out end)
+
+    pub lines_fail : (link : ℕ) (lines : List (List ℕ))
+        → list_any test (map (line_on link) lines) ≡ false
+    lines_fail link [] = refl
+    lines_fail link (line ∷ lines) = λ i. none link line i || lines_fail link lines i
 
     one_kept : (cause : Cause) (sent : Sent) (outs : List Sent) (ends : Ends)
         → list_any test (one_put cause sent outs ends) ≡ test sent

@@ -4,5 +4,6 @@ pub mod Following
 pub mod Hearing
 pub mod Kept
 pub mod Numbers
+pub mod Own
 pub mod Passing
 pub mod Setting

@@ -16,35 +16,36 @@ use Rattle.irc_server.specs.Served.{no_link}
 use Rattle.irc_engine.specs.Machines.{runs_out_now, IsConnectedBy, IsRefusal}
 use Rattle.irc_engine.specs.Machines.{IsStillConnected}
 use Rattle.irc_layer.specs.Ends.{ends_followed, Ends}
-use Rattle.irc_layer.specs.Layers.{by_event, closing, IsConnectedIf, Passes, PassesOrNot, State}
+use Rattle.irc_layer.specs.declared.end.Cause.{Cause}
+use Rattle.irc_layer.specs.Layers.{by_itself, closing, IsConnectedIf, Passes, PassesOrNot, State}
 use Rattle.irc_layer.specs.Putting.{all_put, ends_behind_all}
 use Rattle.irc_layer.proofs.Connecting.{connected_put, nobody_goes, still_by_line, still_shut}
 use Rattle.arrayvec.specs.ArrayVec.{ArrayVec}
 
 -- ---- it is handled
 
-module _ (arrival : Option ℕ) (event : Event) (old new : State) (held outs : List Sent)
+module _ (cause : Cause) (event : Event) (old new : State) (held outs : List Sent)
     (followed : Ends) (none_held : held ≡ []) where
   pub passes_by : IsHandled old.layer.server event held (Ok tt) new.layer.server outs
       → followed ≡ ends_followed event old.layer.plain old.layer.ends
-      → new.layer.ends ≡ ends_behind_all (by_event arrival) outs followed
+      → new.layer.ends ≡ ends_behind_all cause outs followed
       → new.layer.plain ≡ old.layer.plain
-      → new.outs ≡ old.outs ++ all_put (by_event arrival) outs followed
-      → Passes arrival event old new
+      → new.outs ≡ old.outs ++ all_put cause outs followed
+      → Passes cause event old new
   passes_by handled follows ends plain put = record {
     outs = outs;
     is_handled = subst (λ (h : List Sent).
         IsHandled old.layer.server event h (Ok tt) new.layer.server outs) none_held handled;
-    ends_are = ends ∙ ap (ends_behind_all (by_event arrival) outs) follows;
+    ends_are = ends ∙ ap (ends_behind_all cause outs) follows;
     plain_is = plain;
-    outs_are = put ∙ ap (λ (e : Ends). old.outs ++ all_put (by_event arrival) outs e) follows;
+    outs_are = put ∙ ap (λ (e : Ends). old.outs ++ all_put cause outs e) follows;
   }
 
   pub connects_by : IsConnectedBy old.layer.server event held new.layer.server outs
-      → new.outs ≡ old.outs ++ all_put (by_event arrival) outs followed
+      → new.outs ≡ old.outs ++ all_put cause outs followed
       → IsConnectedBy old.layer.server event old.outs new.layer.server new.outs
   connects_by connected put =
-      connected_put event (by_event arrival) followed old.layer.server new.layer.server outs
+      connected_put event cause followed old.layer.server new.layer.server outs
       old.outs new.outs
       (subst (λ (h : List Sent). IsConnectedBy old.layer.server event h new.layer.server outs)
       none_held connected) put
@@ -86,7 +87,7 @@ module _ (link : ℕ) (line : ArrayVec ℕ) (old new : State) where
       (nobody_goes old.layer.server old.outs))
 
   pub shut_if : (reason : CloseReason) (end : List Sent) (is_taken : Bool)
-      → PassesOrNot is_taken None (LinkDown link) old new
+      → PassesOrNot is_taken by_itself (LinkDown link) old new
       → IsConnectedIf is_taken (LinkDown link) old new
       → end ≡ new.outs ++ closing is_taken link reason
       → IsStillConnected old.layer.server old.outs new.layer.server end

@@ -8,6 +8,6 @@ pub returns-clause-connected : goal.returns-clause-connected
 returns-clause-connected c =
     subst (λ server. IsStillConnected c.args.self.now.server c.args.out.now.outs server
     c.pass_if_taken.new.out.outs) (sym c.meet.ensures.server)
-    (still_if c.args.link c.args.line (state_of c.args.self.now c.args.out.now)
+    (still_if c.args.from.link c.args.line (state_of c.args.self.now c.args.out.now)
     (state_of c.pass_if_taken.new.self c.pass_if_taken.new.out) c.in_ok-pass_if_taken.field-0
     c.in_ok-pass_if_taken.ensures.connected)

@@ -14,7 +14,7 @@ returns-in_err-put_all-clause-owed c = memory_owed c.args.self.now.server c.args
 
 pub returns-clause-passes : goal.returns-clause-passes
 returns-clause-passes c =
-    passes_by c.args.arrival c.args.event.now (state_of c.args.self.now c.args.out.now)
+    passes_by c.args.cause c.args.event.now (state_of c.args.self.now c.args.out.now)
     (state_of (record {
       server = c.handle.new.self;
       ends = c.put_all.new.ends;
@@ -31,7 +31,7 @@ returns-clause-passes c =
 
 pub returns-clause-connected : goal.returns-clause-connected
 returns-clause-connected c =
-    connects_by c.args.arrival c.args.event.now (state_of c.args.self.now c.args.out.now)
+    connects_by c.args.cause c.args.event.now (state_of c.args.self.now c.args.out.now)
     (state_of (record {
       server = c.handle.new.self;
       ends = c.put_all.new.ends;

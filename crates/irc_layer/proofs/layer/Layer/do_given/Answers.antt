@@ -1,5 +1,5 @@
 use Rattle.irc_layer.proofs.Connecting.{nobody_goes}
-use Rattle.irc_layer.proofs.layer.Layer.hear_one.Goals as goal
+use Rattle.irc_layer.proofs.layer.Layer.do_given.Goals as goal
 
 pub returns-in-LeftOut-clause-connected : goal.returns-in-LeftOut-clause-connected
 returns-in-LeftOut-clause-connected c = nobody_goes c.args.self.now.server c.args.out.now.outs
