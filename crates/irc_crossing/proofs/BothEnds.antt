@@ -1,6 +1,6 @@
 -- Two changes, each done first at one end.
-use Rattle.std.proofs.Common.{◌≡◌, ℕ, Bool, true, false, ◌&&◌, ◌||◌, Option, Some, None, List, refl, sym}
-use Rattle.std.proofs.Common.{◌∙◌, ap, if◌then◌else◌, rules, nat_eq, true≢false}
+use Rattle.std.proofs.Common.{◌≡◌, ℕ, Bool, true, false, ◌&&◌, ◌||◌, Option, Some, None, List}
+use Rattle.std.proofs.Common.{refl, sym, ◌∙◌, ap, if◌then◌else◌, rules, nat_eq, true≢false}
 use Rattle.std.specs.Cmp.Lexicographic.{pointwise}
 use Rattle.std.specs.Option.{option_and_then, option_map_or, option_map}
 use Rattle.irc_names.specs.Fold.{key, same}

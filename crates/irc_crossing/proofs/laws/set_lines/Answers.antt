@@ -1,4 +1,5 @@
-use Rattle.irc_crossing.proofs.Examples.{begun_is_one, key_yields, operator_is_brought, operator_stays}
+use Rattle.irc_crossing.proofs.Examples.{begun_is_one, key_yields, operator_is_brought}
+use Rattle.irc_crossing.proofs.Examples.{operator_stays}
 use Rattle.irc_crossing.proofs.Examples.{others_stay, private_yields, topic_stays, topic_yields}
 use Rattle.irc_crossing.proofs.laws.set_lines.Goals as goal
 
