@@ -647,13 +647,15 @@ def counted(program):
         is_told = bool(peer.sees("^COUNT 66 0$"))
         is_set = sets_what_is_marked(peer, al)
         is_greater = leaves_out_the_lesser(peer, al)
+        is_asked = asks_of_what_has_ended(peer, al)
         peer.says("COUNT 1000 1", ":ww PART #den :more than there were")
         is_closed = peer.ends()
         al.says("NICK al")
         bo.sees(" NICK :?al$")
-        return told("counted", greets and is_meant and is_told and is_set and is_greater and is_closed and are_well(network, al, bo),
+        return told("counted", greets and is_meant and is_told and is_set and is_greater and is_asked and is_closed and are_well(network, al, bo),
                     "it is answered with the word, al is told as ally what was said to al, 64 pieces behind the last count are counted, what is marked "
-                    "is set and raises otherwise, of two topics at once the greater stays, and 1000 end the link")
+                    "is set and raises otherwise, of two topics at once the greater stays, a channel that has ended there is asked for and one that is there "
+                    "told of, and 1000 end the link")
 
 
 def pieces_of(peer):
@@ -676,6 +678,19 @@ def leaves_out_the_lesser(peer, al):
     peer.sees(" TOPIC #den :?mm")
     peer.says(":ww TOPIC #den :kk", ":ww TOPIC #den :zz")
     return al.sees(":ww!.* TOPIC #den ").endswith("zz")
+
+
+def asks_of_what_has_ended(peer, al):
+    """The peer, which has not read that al was the last one in #gone, comes to it, and is asked of it; it asks of #den, and is told."""
+    al.says("JOIN #gone")
+    peer.sees(" JOIN :?#gone")
+    count = f"COUNT {pieces_of(peer)} 1"
+    al.says("PART #gone")
+    peer.sees(" PART #gone")
+    peer.says(count, ":ww JOIN #gone")
+    is_asked = peer.sees("^(TELL .*|:a.net .*)$") == "TELL #gone"
+    peer.says("TELL #den")
+    return is_asked and "ally" in peer.sees("^:a.net NJOIN #den :") and peer.sees("^:a.net TOPIC #den :").endswith("zz")
 
 
 def doors(program):

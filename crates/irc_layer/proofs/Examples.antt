@@ -4,7 +4,8 @@ use Rattle.std.specs.Fmt.{digits}
 use Rattle.irc_line.specs.Bytes.{cut}
 use Rattle.irc_line.specs.Messages.{line_text}
 use Rattle.irc_line.specs.Reading.{read_of}
-use Rattle.irc_layer.specs.Examples.{CountIsInFront, KickIsUnspoken, KillDoesNotGoBack}
+use Rattle.irc_names.specs.Names.{is_channel}
+use Rattle.irc_layer.specs.Examples.{AskIsRead, CountIsInFront, KickIsUnspoken, KillDoesNotGoBack}
 use Rattle.irc_layer.specs.Examples.{LostServersAreOne, SetIsMarked}
 
 pub count_is_in_front : CountIsInFront
@@ -26,3 +27,7 @@ set_is_marked = refl
 pub kick_is_unspoken : KickIsUnspoken
 unfolding read_of
 kick_is_unspoken = refl
+
+pub ask_is_read : AskIsRead
+unfolding read_of is_channel line_text cut
+ask_is_read = record { written = refl; read = refl; plain = refl }

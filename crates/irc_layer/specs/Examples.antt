@@ -2,9 +2,11 @@
 use Rattle.std.specs.Prelude.{◌≡◌, ℕ, true, false, Some, None, List, [], ◌∷◌, ◌++◌, codes, nat_eq}
 use Rattle.std.specs.Prelude.{if◌then◌else◌}
 use Rattle.irc_line.specs.Bytes.{crlf}
+use Rattle.irc_line.specs.Messages.{text}
 use Rattle.irc_batch.specs.Batches.{Sent, line_on, line_to}
 use Rattle.irc_link_end.specs.declared.greeting.Greeting.TheVariants.{Whole}
 use Rattle.irc_layer.specs.declared.end.End.{End}
+use Rattle.irc_layer.specs.Asking.{asked_of, tell_parts}
 use Rattle.irc_layer.specs.Ends.{Ends}
 use Rattle.irc_layer.specs.Layers.{by_itself, by_line, by_setting}
 use Rattle.irc_layer.specs.Putting.{all_put}
@@ -74,13 +76,20 @@ SetIsMarked =
     ≡ line_to 1 (codes "hi") ∷ on 4 (codes "COUNT 5 1 set") ∷ on 4 (codes ":b.net MODE #c +i") ∷ []
 
 -- A KICK of a server does not go on a link without counts; 5 is one.
+abbrev pub not_counting : End
+not_counting = record (counting 0 0) { link = record (counting 0 0).link { offers = false } }
+
 abbrev pub without_counts : Ends
-without_counts link = if nat_eq 5 link then Some (record (counting 0 0) {
-  link = record (counting 0 0).link { offers = false };
-}) else None
+without_counts link = if nat_eq 5 link then Some not_counting else None
 
 abbrev pub KickIsUnspoken : Type 0
 KickIsUnspoken =
     all_put (by_setting 3) (on 5 (codes ":b.net KICK #c bo :out")
     ∷ on 5 (codes ":b.net MODE #c +i") ∷ []) without_counts
     ≡ on 5 (codes ":b.net MODE #c +i") ∷ []
+
+-- What one end asks the other reads, where both count pieces.
+pub record AskIsRead : Type 0 where
+  pub written : text (tell_parts (codes "#c")) ≡ codes "TELL #c" ++ crlf
+  pub read : asked_of (codes "TELL #c") (counting 0 0) ≡ Some (codes "#c")
+  pub plain : asked_of (codes "TELL #c") not_counting ≡ None

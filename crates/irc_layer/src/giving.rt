@@ -1,5 +1,5 @@
-//! What comes of a line of a piece: what the server is given for it, and what the other end is asked
-//! or told.
+//! What comes of a line of a piece: what the server is given for it, and what the other end is
+//! asked or told.
 ghost use Rattle.std.specs.Prelude.{◌≡◌, ◌++◌, is_some, false, map, None, IfOk, OnOk};
 ghost use Rattle.std.specs.Option.{option_and_then, option_copied};
 ghost use Rattle.irc_batch.specs.Batches.{line_on};

@@ -1,6 +1,6 @@
 //! What a layer puts out, computed. A law is a function that does nothing, and its contract is the
 //! law: the check proves it.
-ghost use Rattle.irc_layer.specs.Examples.{CountIsInFront, KickIsUnspoken, KillDoesNotGoBack};
+ghost use Rattle.irc_layer.specs.Examples.{AskIsRead, CountIsInFront, KickIsUnspoken, KillDoesNotGoBack};
 ghost use Rattle.irc_layer.specs.Examples.{LostServersAreOne, SetIsMarked};
 
 /// Lines on links.
@@ -10,4 +10,5 @@ pub fn lines_put_out()
     ensures echo { KillDoesNotGoBack }
     ensures set { SetIsMarked }
     ensures unspoken { KickIsUnspoken }
+    ensures ask { AskIsRead }
 {}
