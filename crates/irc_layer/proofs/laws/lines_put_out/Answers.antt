@@ -1,4 +1,5 @@
-use Rattle.irc_layer.proofs.Examples.{ask_is_read, count_is_in_front, kick_is_unspoken, kill_does_not_go_back}
+use Rattle.irc_layer.proofs.Examples.{ask_is_read, count_is_in_front, kick_is_unspoken}
+use Rattle.irc_layer.proofs.Examples.{kill_does_not_go_back}
 use Rattle.irc_layer.proofs.Examples.{lost_servers_are_one, set_is_marked}
 use Rattle.irc_layer.proofs.laws.lines_put_out.Goals as goal
 
