@@ -1,15 +1,17 @@
 -- The ends of a server's links, each with what it has put out that the other end may not have read.
-use Rattle.std.specs.Prelude.{ℕ, Bool, not, Option, Some, None, List, [], nat_eq, if◌then◌else◌}
+use Rattle.std.specs.Prelude.{ℕ, Bool, not, Option, Some, None, List, [], length, nat_eq, nat_le}
+use Rattle.std.specs.Prelude.{if◌then◌else◌}
 use Rattle.std.specs.List.{list_any}
 use Rattle.std.specs.Option.{option_map}
 use Rattle.std.specs.Ordering.{nat_cmp}
 use Rattle.std.specs.BTreeMap.{BTreeMap, get}
+use Rattle.irc_batch.specs.declared.close_reason.CloseReason.TheVariants.{Order}
 use Rattle.irc_names.specs.Fold.{same}
 use Rattle.irc_crossing.specs.Hearing.{log_after}
 use Rattle.irc_crossing.specs.Logs.{unread}
 use Rattle.irc_link_end.specs.LinkEnds.{after_hearing, called, calling, heard_at, met}
 use Rattle.irc_pieces.specs.declared.piece_end.Heard.{Heard}
-use Rattle.irc_pieces.specs.declared.piece_end.Heard.TheVariants.{Nothing}
+use Rattle.irc_pieces.specs.declared.piece_end.Heard.TheVariants.{Fault, Nothing}
 use Rattle.irc_server.specs.declared.event.Event.{Event}
 use Rattle.irc_server.specs.declared.event.Event.TheVariants.{Connect, Line, Gone, LinkUp, LinkLine}
 use Rattle.irc_server.specs.declared.event.Event.TheVariants.{LinkDown}
@@ -55,10 +57,20 @@ met_if is_met end = if is_met then record end { link = met end.link } else end
 abbrev pub with_log_after : List ℕ → End → End
 with_log_after line end = record end { log = log_after end.log line }
 
--- what of a line is for the server, where the link has an end
+-- whether the other end has said too little of what it has read
+abbrev pub is_full : End → Bool
+is_full end = nat_le 1048576 (length end.log)
+
+-- what of a line is for the server; where its end has not said what it has read by then, it was due
+-- to, and the link is closed
+abbrev pub heard_by : List ℕ → End → Heard
+heard_by line end =
+    if is_full (end_hearing line end) then Fault Order else heard_at line end.link
+
+-- the same, where the link has an end
 abbrev pub heard_if : List ℕ → Option End → Heard
 heard_if line None = Nothing
-heard_if line (Some end) = heard_at line end.link
+heard_if line (Some end) = heard_by line end
 
 -- A link that begins has an end, and one that is lost has none.
 abbrev pub ends_followed : Event → List (List ℕ) → Ends → Ends

@@ -19,7 +19,7 @@
 -- go.
 use Rattle.std.specs.Prelude.{ℕ, suc, ◌-◌, Bool, false, ◌&&◌, is_some, Option, Some, None, Result}
 use Rattle.std.specs.Prelude.{Ok, Err, List, [], ◌∷◌, ◌++◌, codes, length, take, min, nat_eq}
-use Rattle.std.specs.Prelude.{nat_le, if◌then◌else◌}
+use Rattle.std.specs.Prelude.{if◌then◌else◌}
 use Rattle.std.specs.Option.{option_map_or}
 use Rattle.irc_line.specs.declared.reading.LineFault.{LineFault}
 use Rattle.irc_line.specs.Messages.{Parsed, text}
@@ -36,13 +36,12 @@ use Rattle.irc_link_end.specs.declared.greeting.WayOut.TheVariants.{Plain, WithW
 use Rattle.irc_link_words.specs.Words.{is_command}
 use Rattle.irc_crossing.specs.Hearing.{logged_of}
 use Rattle.irc_crossing.specs.Lines.{is_kick_line, is_kill_line}
-use Rattle.irc_crossing.specs.declared.log.Entry.{Entry}
 use Rattle.irc_crossing.specs.Logs.{put_out}
 use Rattle.irc_layer.specs.declared.end.Cause.{Cause}
 use Rattle.irc_layer.specs.declared.end.End.{End}
 use Rattle.irc_layer.specs.declared.putting.NextLine.{NextLine}
 use Rattle.irc_layer.specs.declared.putting.NextLine.TheVariants.{Another, Elsewhere, Squit}
-use Rattle.irc_layer.specs.Ends.{change_end, with_end, Ends}
+use Rattle.irc_layer.specs.Ends.{change_end, is_full, with_end, Ends}
 
 -- a line without its CR LF
 abbrev pub body : List ℕ → List ℕ
@@ -116,16 +115,13 @@ with_begun lines end =
 abbrev pub piece_out : Option Mark → ℕ → ℕ → List ℕ → End → List Sent
 piece_out mark link lines line end = count_before mark link lines end ++ line_on link line ∷ []
 
--- A log that is full begins anew: so a peer that never counts costs no more, and lines that come
--- then are given as they came.
-abbrev pub with_room : List Entry → List Entry
-with_room log = if nat_le 1048576 (length log) then [] else log
-
--- a line of it is in the log from now on, by the number of its piece
+-- a line of it is in the log from now on, by the number of its piece; not in one that is full, for
+-- then the link is closed as the next line comes
 abbrev pub with_logged : (begins : Bool) → List ℕ → End → End
 with_logged begins line end = record end {
   left = end.left - 1;
-  log = put_out end.link.pieces.counts.sent (logged_of begins (body line)) (with_room end.log);
+  log = if is_full end then end.log
+      else put_out end.link.pieces.counts.sent (logged_of begins (body line)) end.log;
 }
 
 abbrev pub behind_piece : (begins : Bool) → ℕ → List ℕ → End → End

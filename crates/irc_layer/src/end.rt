@@ -5,16 +5,16 @@ ghost use Rattle.irc_line.specs.Limits.{max_text};
 ghost use Rattle.irc_line.specs.Reading.{read_of};
 ghost use Rattle.irc_crossing.specs.Asking.{asked};
 ghost use Rattle.irc_crossing.specs.Hearing.{given};
-ghost use Rattle.irc_link_end.specs.LinkEnds.{heard_at};
 ghost use Rattle.irc_layer.specs.Asking.{asked_of};
-ghost use Rattle.irc_layer.specs.Ends.{end_hearing, is_plain, met_if, new_end, with_log_after};
+ghost use Rattle.irc_layer.specs.Ends.{end_hearing, heard_by, is_full, is_plain, met_if, new_end};
+ghost use Rattle.irc_layer.specs.Ends.{with_log_after};
 ghost use Rattle.irc_layer.specs.Putting.{behind_line, behind_piece, body, count_at, count_before};
 ghost use Rattle.irc_layer.specs.Putting.{count_out, is_echo, is_kick_read, is_kill_read, is_squit};
 ghost use Rattle.irc_layer.specs.Putting.{is_unspoken, line_out};
-ghost use Rattle.irc_layer.specs.Putting.{piece_out, with_begun, with_count_out, with_room};
+ghost use Rattle.irc_layer.specs.Putting.{piece_out, with_begun, with_count_out};
 
 use crate::asking::asked_by;
-use irc_batch::Batch;
+use irc_batch::{Batch, CloseReason};
 use irc_crossing::{Given, Log};
 use irc_line::{Line, parse};
 use irc_link_end::{LinkEnd, WayOut, with_word};
@@ -24,7 +24,7 @@ use irc_pieces::{Count, Heard, Mark, count_text};
 use std::alloc::{AllocError, Global};
 
 /// How many changes a log holds (our own choice): more than are on their way between two daemons,
-/// by the room that kernels and outboxes have.
+/// by the room that kernels and outboxes have. So a peer that never counts costs no more.
 const MOST_CHANGES: usize = 1_048_576;
 
 /// One end of a link.
@@ -79,17 +79,28 @@ impl End {
         }
     }
 
-    /// Takes a line that has come: what of it is for the server.
+    /// Takes a line that has come: what of it is for the server. Where the log is full still, it
+    /// was due to say what it has read.
     ///
     /// # Errors
     /// Where memory runs out.
     pub fn hear(&mut self, line: Line) -> Result<Heard, AllocError>
-        ensures heard { IfOk result (λ heard. heard ≡ heard_at line.items self.old.link) }
+        ensures heard { IfOk result (λ heard. heard ≡ heard_by line.items self.old) }
         ensures after { OnOk result (self.new ≡ end_hearing line.items self.old) }
     {
         let heard = self.link.hear(line)?;
         self.log.count(self.link.taken());
+        if self.is_full() {
+            return Ok(Heard::Fault(CloseReason::Order));
+        }
         Ok(heard)
+    }
+
+    /// Whether the other end has said too little of what it has read.
+    fn is_full(&self) -> bool
+        ensures { result ≡ is_full self.now }
+    {
+        self.log.len() >= MOST_CHANGES
     }
 
     /// What the server is given for a line; `peer` is the server at the other end, and `is_held` is
@@ -174,19 +185,11 @@ impl End {
     {
         self.begin(cause.mark, to, out)?;
         self.left = self.left.saturating_sub(1);
-        self.make_room();
-        self.log
-            .put_out(self.link.sent(), body(line), cause.begins)?;
-        out.put_on(to.link, line)
-    }
-
-    /// A log that is full begins anew.
-    fn make_room(&mut self)
-        ensures { self.new ≡ record self.old { log = with_room self.old.log } }
-    {
-        if self.log.len() >= MOST_CHANGES {
-            self.log.clear();
+        if !self.is_full() {
+            self.log
+                .put_out(self.link.sent(), body(line), cause.begins)?;
         }
+        out.put_on(to.link, line)
     }
 
     /// A piece begins, unless one has begun.
