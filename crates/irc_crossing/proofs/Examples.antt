@@ -8,7 +8,7 @@ use Rattle.irc_names.specs.Fold.{fold, fold_table}
 use Rattle.irc_modes.specs.Modes.{is_limit}
 use Rattle.irc_names.specs.Names.{is_ban_mask, is_channel, is_key, is_nick}
 use Rattle.irc_crossing.specs.Examples.{BegunIsAsked, BegunIsOne, EndedIsAsked, NextIsUnset}
-use Rattle.irc_crossing.specs.Examples.{OthersAreNotAsked}
+use Rattle.irc_crossing.specs.Examples.{ComerIsBrought, OthersAreNotAsked}
 use Rattle.irc_crossing.specs.Examples.{GoneIsLeftOut, InviteIsLeftOut, KeyStays, KeyYields}
 use Rattle.irc_crossing.specs.Examples.{KickIsFollowed, KickIsSet, ModeIsSet, OperatorIsBrought}
 use Rattle.irc_crossing.specs.Examples.{OperatorStays, OthersStay, PrivateYields, TopicIsSet}
@@ -143,3 +143,7 @@ begun_is_asked = record { anew = refl; passed_on = refl }
 pub others_are_not_asked : OthersAreNotAsked
 unfolding read_of is_nick is_channel fold fold_table
 others_are_not_asked = record { held = refl; other = refl; told = refl }
+
+pub comer_is_brought : ComerIsBrought
+unfolding read_of is_nick is_channel fold fold_table line_text cut
+comer_is_brought = record { ended = refl; spelled = refl; other = refl }

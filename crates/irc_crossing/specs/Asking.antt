@@ -23,8 +23,7 @@ use Rattle.irc_names.specs.Fold.{same}
 use Rattle.irc_crossing.specs.declared.change.Change.{Change}
 use Rattle.irc_crossing.specs.declared.change.Change.TheVariants.{Come, Rename, Go, Out, Join, Set}
 use Rattle.irc_crossing.specs.declared.log.Entry.{Entry}
-use Rattle.irc_crossing.specs.Hearing.{is_same_prefix}
-use Rattle.irc_crossing.specs.Lines.{change_of}
+use Rattle.irc_crossing.specs.Lines.{change_of, is_same_prefix}
 use Rattle.irc_crossing.specs.Settings.{is_in}
 
 -- whether a channel has begun by a change
@@ -82,13 +81,17 @@ asked_by log is_own is_held (Go nick other) = None
 asked_by log is_own is_held (Out nick channel) = None
 asked_by log is_own is_held (Set setting) = None
 
+-- `peer` is the server at the other end
+abbrev pub asked_message : List Entry → (peer : List ℕ) → (is_held : Bool) → Parsed
+    → Option (List ℕ)
+asked_message log peer is_held message = option_and_then
+    (asked_by log (is_same_prefix (Some peer) message.prefix) is_held) (change_of message)
+
 abbrev pub asked_in : List Entry → (peer : List ℕ) → (is_held : Bool) → Result Parsed LineFault
     → Option (List ℕ)
-asked_in log peer is_held (Ok message) = option_and_then
-    (asked_by log (is_same_prefix (Some peer) message.prefix) is_held) (change_of message)
+asked_in log peer is_held (Ok message) = asked_message log peer is_held message
 asked_in log peer is_held (Err fault) = None
 
--- `peer` is the server at the other end
 abbrev pub asked : List Entry → (peer : List ℕ) → (is_held : Bool) → (line : List ℕ)
     → Option (List ℕ)
 asked log peer is_held line = asked_in log peer is_held (read_of line)

@@ -127,7 +127,7 @@ begun line = line ++ 7 ∷ codes "o"
 
 abbrev pub OperatorIsBrought : Type 0
 OperatorIsBrought = given_after (begun (codes ":al JOIN #c")) (begun (codes ":bo JOIN #C"))
-    ≡ Brings (codes "bo") (codes "#C")
+    ≡ Brings (codes "bo") (codes "#c") true
 
 -- it is one from then on: what is set in it stays
 abbrev pub BegunIsOne : Type 0
@@ -146,6 +146,15 @@ begun_anew = ended ++ begun (codes ":ann JOIN #c") ∷ []
 abbrev pub NextIsUnset : Type 0
 NextIsUnset =
     given (log_of 1 begun_anew []) (codes "b.net") true (codes ":bo MODE #c +i") ≡ LeftOut
+
+-- who comes to one that has ended here brings it, by the greatest of its spellings
+pub record ComerIsBrought : Type 0 where
+  pub ended : given (log_of 1 ended []) (codes "b.net") false (codes ":bea JOIN #c")
+      ≡ Brings (codes "bea") (codes "#c") false
+  pub spelled : given (log_of 1 (begun (codes ":al JOIN #c") ∷ codes ":al PART #c :bye" ∷ []) [])
+      (codes "b.net") false (begun (codes ":bea JOIN #C"))
+      ≡ Brings (codes "bea") (codes "#c") true
+  pub other : given (log_of 1 ended []) (codes "b.net") false (codes ":bea JOIN #d") ≡ AsItCame
 
 -- the channel that is asked for, where these lines were put out
 abbrev pub asked_after : List (List ℕ) → Bool → List ℕ → Option (List ℕ)

@@ -15,12 +15,14 @@ use Rattle.std.specs.Prelude.{if◌then◌else◌}
 use Rattle.std.specs.List.{slice_get}
 use Rattle.std.specs.Option.{is_none, option_map, option_map_or}
 use Rattle.std.specs.Cmp.Lexicographic.{pointwise}
+use Rattle.std.specs.Ordering.{is_lt}
 use Rattle.std.specs.Str.{bytes_eq}
 use Rattle.irc_line.specs.declared.reading.LineFault.{LineFault}
 use Rattle.irc_line.specs.Messages.{Parsed, Sender, Written, nobody, named, text}
 use Rattle.irc_line.specs.Reading.{read_of}
 use Rattle.irc_modes.specs.declared.modes.ModeChange.{ModeChange}
 use Rattle.irc_names.specs.Fold.{same}
+use Rattle.irc_names.specs.Greater.{bytes_cmp}
 use Rattle.irc_names.specs.Names.{is_channel, is_nick}
 use Rattle.irc_link_words.specs.Words.{is_marked, unmarked}
 use Rattle.irc_burst_lines.specs.DeedLines.{mode_parts}
@@ -31,11 +33,12 @@ use Rattle.irc_crossing.specs.declared.hearing.Given.TheVariants.{AsItCame, Chan
 use Rattle.irc_crossing.specs.declared.hearing.Given.TheVariants.{Brings, Kills, Sets}
 use Rattle.irc_crossing.specs.declared.log.Entry.{Entry}
 use Rattle.irc_crossing.specs.declared.modes.ChannelModes.{ChannelModes}
+use Rattle.irc_crossing.specs.Asking.{asked_message}
 use Rattle.irc_crossing.specs.Letters.{letters_left, LettersLeft}
 use Rattle.irc_crossing.specs.Logs.{log_behind, means_as, through}
 use Rattle.irc_crossing.specs.Lines.{change_of, channel_modes, is_for_somebody, is_join_line}
 use Rattle.irc_crossing.specs.Lines.{is_kick_line, is_nick_line, is_part_line, is_topic_line}
-use Rattle.irc_crossing.specs.Lines.{logged, word_at}
+use Rattle.irc_crossing.specs.Lines.{is_same_prefix, logged, word_at}
 
 -- ---- nicknames in a line
 
@@ -90,12 +93,6 @@ written_with prefix message params = record {
   last = slice_get params (length params - 1);
 }
 
--- whether two say who a line is from in the same bytes
-abbrev pub is_same_prefix : (one other : Option (List ℕ)) → Bool
-is_same_prefix None None = true
-is_same_prefix (Some one) (Some other) = bytes_eq one other
-is_same_prefix one other = false
-
 -- the line from this one, with these parameters; as it came, where both are as they were
 abbrev pub given_with : Parsed → Option (List ℕ) → List (List ℕ) → Given
 given_with message prefix params =
@@ -120,22 +117,43 @@ set_given log peer message =
     if is_kick_line message || is_topic_line message
     then set_if message peer (words_left log message) else LeftOut
 
--- Somebody has begun a channel that is here as well. A JOIN would not show that the user is an
--- operator, and leave the channel's name as it is.
+-- Somebody comes to a channel that is not the same at both ends: it was begun by both, or may have
+-- ended here and is asked for. A JOIN would not show that the user is an operator, and leave the
+-- channel's name as it is: it has the greatest spelling of what both wrote.
 --   a.net has put out   :al JOIN #c\7o         b.net writes   :bo JOIN #C\7o
---   a.net does          :b.net NJOIN #C :@bo
-abbrev pub brought : Parsed → List ℕ → Given
-brought message doer =
-    if is_marked (word_at 0 message)
-    then (if is_nick doer && is_channel (unmarked (word_at 0 message))
-    then Brings doer (unmarked (word_at 0 message))
-    else given_with message (Some doer) message.params)
+--   a.net does          :b.net NJOIN #c :@bo
+--   a.net has put out   :al PART #c :bye       b.net writes   :bo JOIN #c
+--   a.net does          :b.net NJOIN #c :bo    and writes TELL #c
+abbrev pub greater_by : Option Change → (channel : List ℕ) → List ℕ
+greater_by None channel = channel
+greater_by (Some (Join at begins)) channel =
+    if same channel at && is_lt (bytes_cmp channel at) then at else channel
+greater_by (Some (Come nick)) channel = channel
+greater_by (Some (Rename nick new)) channel = channel
+greater_by (Some (Go nick other)) channel = channel
+greater_by (Some (Out nick at)) channel = channel
+greater_by (Some (Set setting)) channel = channel
+
+abbrev pub spelled_in : List Entry → (channel : List ℕ) → List ℕ
+spelled_in [] channel = channel
+spelled_in (entry ∷ log) channel = spelled_in log (greater_by entry.change channel)
+
+abbrev pub is_brought : List Entry → (peer : List ℕ) → Bool → Parsed → Bool
+is_brought log peer is_held message = is_join_line message
+    && ((is_held && is_marked (word_at 0 message))
+    || is_some (asked_message log peer is_held message))
+
+abbrev pub brought : List Entry → Parsed → List ℕ → Given
+brought log message doer =
+    if is_nick doer && is_channel (unmarked (word_at 0 message))
+    then Brings doer (spelled_in log (unmarked (word_at 0 message)))
+    (is_marked (word_at 0 message))
     else given_with message (Some doer) message.params
 
 abbrev pub given_from : List Entry → (peer : List ℕ) → Bool → Parsed → Option (List ℕ) → Given
 given_from log peer is_held message None = set_given log peer message
 given_from log peer is_held message (Some doer) =
-    if is_held && is_join_line message then brought message doer
+    if is_brought log peer is_held message then brought log message doer
     else given_if message (Some doer) (words_left log message)
 
 abbrev pub given_by : List Entry → (peer : List ℕ) → Bool → Parsed → Option (List ℕ) → Given

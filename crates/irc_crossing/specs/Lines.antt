@@ -1,7 +1,8 @@
 -- What a line of a link changes (RFC 2813 section 4), and the nicknames in it.
-use Rattle.std.specs.Prelude.{ℕ, Bool, false, ◌&&◌, ◌||◌, Option, Some, None, List, [], ◌∷◌}
+use Rattle.std.specs.Prelude.{ℕ, Bool, true, false, ◌&&◌, ◌||◌, Option, Some, None, List, [], ◌∷◌}
 use Rattle.std.specs.Prelude.{codes, get_or, map, option_to_list, if◌then◌else◌}
 use Rattle.std.specs.Option.{option_and_then, option_map, option_map_or}
+use Rattle.std.specs.Str.{bytes_eq}
 use Rattle.irc_line.specs.Messages.{Parsed}
 use Rattle.irc_names.specs.Names.{is_channel, is_nick}
 use Rattle.irc_link_words.specs.Words.{are_words, is_command, is_marked, told_changes, unmarked}
@@ -14,6 +15,12 @@ use Rattle.irc_crossing.specs.Letters.{set_mode}
 -- a word of a line; no bytes where the line has fewer
 abbrev pub word_at : ℕ → Parsed → List ℕ
 word_at place message = get_or message.params place []
+
+-- whether two say who a line is from in the same bytes
+abbrev pub is_same_prefix : (one other : Option (List ℕ)) → Bool
+is_same_prefix None None = true
+is_same_prefix (Some one) (Some other) = bytes_eq one other
+is_same_prefix one other = false
 
 abbrev pub is_nick_line : Parsed → Bool
 is_nick_line message = is_command (codes "NICK") message.command

@@ -2,9 +2,8 @@
 ghost use Rattle.std.specs.Prelude.{◌≡◌};
 ghost use Rattle.std.specs.Option.{option_and_then, option_copied};
 ghost use Rattle.irc_line.specs.MessageViews.{parsed};
-ghost use Rattle.irc_crossing.specs.Asking.{asked, asked_by, begins_by, may_have_ended, takes_out};
-ghost use Rattle.irc_crossing.specs.Asking.{tells_of};
-ghost use Rattle.irc_crossing.specs.Lines.{change_of};
+ghost use Rattle.irc_crossing.specs.Asking.{asked, asked_by, asked_message, begins_by};
+ghost use Rattle.irc_crossing.specs.Asking.{may_have_ended, takes_out, tells_of};
 
 use crate::change::Change;
 use crate::hearing::is_same_prefix;
@@ -21,19 +20,27 @@ impl Log {
         ensures { result ≡ asked self.now peer.now is_held line.now }
     {
         match parse(line) {
-            Ok(message) => {
-                let is_own = is_same_prefix(Some(peer), message.prefix);
-                self.asked_by(&message, is_own, is_held)
-            }
+            Ok(message) => self.asked_message(&message, peer, is_held),
             Err(_) => None,
         }
     }
 
-    fn asked_by(&self, message: &Message<'_>, is_own: bool, is_held: bool) -> Option<ChannelName>
-        ensures { result ≡ option_and_then
-            (asked_by self.now is_own is_held) (change_of (parsed message.now)) }
+    pub(crate) fn asked_message(
+        &self,
+        message: &Message<'_>,
+        peer: &[u8],
+        is_held: bool,
+    ) -> Option<ChannelName>
+        ensures { result ≡ asked_message self.now peer.now is_held (parsed message.now) }
     {
-        match change_of(message)? {
+        let is_own = is_same_prefix(Some(peer), message.prefix);
+        self.asked_by(change_of(message), is_own, is_held)
+    }
+
+    fn asked_by(&self, change: Option<Change>, is_own: bool, is_held: bool) -> Option<ChannelName>
+        ensures { result ≡ option_and_then (asked_by self.now is_own is_held) change }
+    {
+        match change? {
             Change::Join { channel, .. }
                 if (!is_held || self.has_begun(&channel))
                     && self.may_have_ended(is_own, &channel) => { Some(channel) }

@@ -8,14 +8,14 @@ ghost use Rattle.irc_line.specs.MessageViews.{optional_now, params_now, parsed};
 ghost use Rattle.irc_line.specs.Messages.{text};
 ghost use Rattle.irc_line.specs.PartViews.{sender, words_now};
 ghost use Rattle.irc_crossing.specs.Hearing.{brought, doer_now, given, given_by, given_from};
-ghost use Rattle.irc_crossing.specs.Hearing.{given_if, given_with, is_same_prefix, log_after};
+ghost use Rattle.irc_crossing.specs.Hearing.{given_if, given_with, is_brought, log_after};
 ghost use Rattle.irc_crossing.specs.Hearing.{log_after_message, message_given, met_given};
 ghost use Rattle.irc_crossing.specs.Hearing.{mode_set, modes_by, modes_from, modes_given};
 ghost use Rattle.irc_crossing.specs.Hearing.{nick_given, sender_again, set_given, stays};
 ghost use Rattle.irc_crossing.specs.Hearing.{word_now, words_left, words_now_at, written_with};
 ghost use Rattle.irc_crossing.specs.Letters.{letters_left};
 ghost use Rattle.irc_crossing.specs.Logs.{log_behind, means_as, through};
-ghost use Rattle.irc_crossing.specs.Lines.{change_of, word_at};
+ghost use Rattle.irc_crossing.specs.Lines.{change_of, is_same_prefix, word_at};
 ghost use Rattle.irc_crossing.specs.Loops.Hearings.{IsPutRight};
 ghost use Rattle.std.specs.Prelude.{List};
 ghost use Rattle.irc_crossing.specs.declared.log.Entry.{Entry};
@@ -48,8 +48,9 @@ pub enum Given {
     LeftOut,
     /// That the users of these nicknames are killed: two have had one nickname.
     Kills(Nick, Option<Nick>),
-    /// That a user has come to a channel that was begun at both ends, and is an operator of it.
-    Brings(Nick, ChannelName),
+    /// That a user has come to a channel, as an operator or not, which is spelled so where its name
+    /// there is not the greater: one that was begun at both ends, or is asked for.
+    Brings(Nick, ChannelName, bool),
     /// This line of the server at the other end, with its CR LF, which does what it says: for who
     /// has done it is gone here.
     Sets(Text),
@@ -142,13 +143,35 @@ impl Log {
     {
         match message.prefix {
             Some(doer) => match self.doer_now(message, doer) {
-                Some(now) if is_held && is_command(b"JOIN", message.command) => {
-                    brought(message, now)
+                Some(now) if self.is_brought(message, peer, is_held) => {
+                    self.brought(message, now)
                 }
                 Some(now) => self.given_from(message, Some(now)),
                 None => self.set_given(message, peer),
             },
             None => self.given_from(message, None),
+        }
+    }
+
+    /// Whether somebody comes to a channel that is not the same at both ends.
+    fn is_brought(&self, message: &Message<'_>, peer: &[u8], is_held: bool) -> bool
+        ensures { result ≡ is_brought self.now peer.now is_held (parsed message.now) }
+    {
+        is_command(b"JOIN", message.command)
+            && ((is_held && is_marked(word_at(message, 0)))
+                || self.asked_message(message, peer, is_held).is_some())
+    }
+
+    /// What is given for a JOIN by which somebody does.
+    fn brought(&self, message: &Message<'_>, doer: &[u8]) -> Given
+        ensures { result ≡ brought self.now (parsed message.now) doer.now }
+    {
+        let word = word_at(message, 0);
+        match (Nick::read(doer), ChannelName::read(unmarked(word))) {
+            (Some(nick), Some(channel)) => {
+                Given::Brings(nick, self.spelled(channel), is_marked(word))
+            }
+            _ => given_with(message, Some(doer), message.params.as_slice()),
         }
     }
 
@@ -299,20 +322,6 @@ fn met_given(message: &Message<'_>, nick: Nick, other: Option<Nick>, is_held: bo
         }
         None if is_still && message.prefix.is_none() => Given::AsItCame,
         other => Given::Kills(nick, other),
-    }
-}
-
-/// What is given for a JOIN by which somebody has begun a channel that is here as well.
-fn brought(message: &Message<'_>, doer: &[u8]) -> Given
-    ensures { result ≡ brought (parsed message.now) doer.now }
-{
-    let word = word_at(message, 0);
-    if !is_marked(word) {
-        return given_with(message, Some(doer), message.params.as_slice());
-    }
-    match (Nick::read(doer), ChannelName::read(unmarked(word))) {
-        (Some(nick), Some(channel)) => Given::Brings(nick, channel),
-        _ => given_with(message, Some(doer), message.params.as_slice()),
     }
 }
 

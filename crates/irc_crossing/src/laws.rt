@@ -2,7 +2,7 @@
 //! function that does nothing, and its contract is the law: the check proves it, and a crate above
 //! may cite it.
 ghost use Rattle.irc_crossing.specs.Examples.{BegunIsAsked, BegunIsOne, EndedIsAsked, NextIsUnset};
-ghost use Rattle.irc_crossing.specs.Examples.{OthersAreNotAsked};
+ghost use Rattle.irc_crossing.specs.Examples.{ComerIsBrought, OthersAreNotAsked};
 ghost use Rattle.irc_crossing.specs.Examples.{GoneIsLeftOut, InviteIsLeftOut, KeyStays};
 ghost use Rattle.irc_crossing.specs.Examples.{KeyYields, KickIsSet, ModeIsSet, OperatorIsBrought};
 ghost use Rattle.irc_crossing.specs.Examples.{OperatorStays, OthersStay, PrivateYields};
@@ -92,6 +92,7 @@ pub fn ended_channels()
     ensures ended { EndedIsAsked }
     ensures begun { BegunIsAsked }
     ensures others { OthersAreNotAsked }
+    ensures brought { ComerIsBrought }
 {}
 
 /// What somebody does who is gone.

@@ -2,7 +2,7 @@
 ghost use Rattle.std.specs.Prelude.{◌≡◌, [], ◌∷◌, drop, length, map, nat_eq, OnOk};
 ghost use Rattle.std.specs.Option.{option_copied};
 ghost use Rattle.irc_line.specs.MessageViews.{parsed};
-ghost use Rattle.irc_crossing.specs.Hearing.{logged_of};
+ghost use Rattle.irc_crossing.specs.Hearing.{greater_by, logged_of, spelled_in};
 ghost use Rattle.irc_crossing.specs.Asking.{has_begun, has_taken_out, has_told_of};
 ghost use Rattle.irc_crossing.specs.Letters.{set_mode};
 ghost use Rattle.irc_crossing.specs.Lines.{logged};
@@ -240,6 +240,29 @@ impl Log {
         self.entries
             .iter()
             .any(|entry| takes_out(entry.change.as_ref()))
+    }
+
+    /// The greatest spelling of a channel's name, of this one and those that were put out.
+    pub(crate) fn spelled(&self, channel: ChannelName) -> ChannelName
+        ensures { result ≡ spelled_in self.now channel }
+    {
+        let mut greatest = channel;
+        for entry in self.entries.iter() {
+            greatest = greater_by(entry.change.as_ref(), greatest);
+        }
+        greatest
+    }
+}
+
+/// The greater spelling of a channel's name, of this one and that of a change.
+fn greater_by(change: Option<&Change>, channel: ChannelName) -> ChannelName
+    ensures { result ≡ greater_by (option_copied change.entry) channel }
+{
+    match change {
+        Some(Change::Join { channel: at, .. })
+            if same(channel.as_bytes(), at.as_bytes())
+                && channel.as_bytes().cmp(at.as_bytes()).is_lt() => { at.copy() }
+        _ => channel,
     }
 }
 

@@ -24,6 +24,7 @@ use Rattle.irc_crossing.specs.declared.hearing.Given.{Given}
 use Rattle.irc_crossing.specs.declared.hearing.Given.TheVariants.{AsItCame, Changed, LeftOut}
 use Rattle.irc_crossing.specs.declared.hearing.Given.TheVariants.{Brings, Kills}
 use Rattle.irc_crossing.specs.declared.hearing.Given.TheVariants.{Sets as SetsLine}
+use Rattle.irc_channels.specs.declared.flags.Flags.{Flags}
 use Rattle.irc_crossing.specs.Asking.{asked}
 use Rattle.irc_crossing.specs.Hearing.{given}
 use Rattle.irc_stage.specs.View.{View}
@@ -159,19 +160,20 @@ abbrev pub Does : Option Mark → (begins : Bool) → ℕ → List ℕ → State
 Does None begins link line old new = Gives begins link line old new
 Does (Some Set) begins link line old new = Sets link line old new
 
--- A user comes to a channel as an operator, as the server at the other end tells it.
-abbrev pub member_by : List ℕ → (nick channel : List ℕ) → List ℕ
-member_by peer nick channel = body (text (njoin_parts peer channel
-    ((nick, record { op = true; voice = false }) ∷ [])))
+-- A user comes to a channel, as the server at the other end tells it.
+abbrev pub member_by : List ℕ → (member : List ℕ × Flags) → (channel : List ℕ) → List ℕ
+member_by peer member channel = body (text (njoin_parts peer channel (member ∷ [])))
 
-abbrev pub BringsBy : Option (List ℕ) → ℕ → (nick channel : List ℕ) → State → State → Type 0
-BringsBy None link nick channel old new = new ≡ old
-BringsBy (Some peer) link nick channel old new =
-    Gives false link (member_by peer nick channel) old new
+abbrev pub BringsBy : Option (List ℕ) → (begins : Bool) → ℕ → (member : List ℕ × Flags)
+    → (channel : List ℕ) → State → State → Type 0
+BringsBy None begins link member channel old new = new ≡ old
+BringsBy (Some peer) begins link member channel old new =
+    Gives begins link (member_by peer member channel) old new
 
-abbrev pub BringsOne : ℕ → (nick channel : List ℕ) → State → State → Type 0
-BringsOne link nick channel old new =
-    BringsBy (far_of old.layer.server link) link nick channel old new
+abbrev pub BringsOne : (begins : Bool) → ℕ → (member : List ℕ × Flags) → (channel : List ℕ)
+    → State → State → Type 0
+BringsOne begins link member channel old new =
+    BringsBy (far_of old.layer.server link) begins link member channel old new
 
 -- Users of one nickname are killed, as by the server at the other end.
 abbrev pub kill_by : List ℕ → List ℕ → List ℕ
@@ -200,7 +202,8 @@ GivesAs (Changed text) mark begins link line old new =
     Does mark begins link (body text.items) old new
 GivesAs LeftOut mark begins link line old new = new ≡ old
 GivesAs (Kills nick other) mark begins link line old new = GivesKills link nick other old new
-GivesAs (Brings nick channel) mark begins link line old new = BringsOne link nick channel old new
+GivesAs (Brings nick channel op) mark begins link line old new =
+    BringsOne begins link (nick, record { op = op; voice = false }) channel old new
 GivesAs (SetsLine text) mark begins link line old new = Sets link (body text.items) old new
 
 -- what the server is given for a line of a piece; nothing where the link was closed before it

@@ -120,7 +120,9 @@ impl Layer {
             Given::Changed(text) => self.do_line(from, line_of(&text), out),
             Given::LeftOut => Ok(()),
             Given::Kills(nick, other) => self.give_kills(from.link, &nick, other.as_ref(), out),
-            Given::Brings(nick, channel) => self.bring(from.link, nick, &channel, out),
+            Given::Brings(nick, channel, op) => {
+                self.bring(from, member(nick, op), &channel, out)
+            }
             Given::Sets(text) => self.set(from.link, line_of(&text), out),
         }
     }
@@ -211,24 +213,25 @@ impl Layer {
         }
     }
 
-    /// A user comes to a channel as an operator, as the server at the other end tells it.
+    /// A user comes to a channel, as the server at the other end tells it.
     fn bring(
         &mut self,
-        link: u64,
-        nick: Nick,
+        from: Arrived,
+        member: NewMember,
         channel: &ChannelName,
         out: &mut Batch,
     ) -> Result<(), AllocError>
-        ensures heard { OnOk result (BringsOne link nick channel.now
+        ensures heard { OnOk result
+            (BringsOne from.begins from.link (told_member member) channel.now
             (state_of self.old out.old) (state_of self.new out.new)) }
         ensures connected { OnOk result (IsStillConnected self.old.server out.old.outs
             self.new.server out.new.outs) }
     {
-        let Some(peer) = self.far(link) else {
+        let Some(peer) = self.far(from.link) else {
             return Ok(());
         };
-        let line = line_of(&njoin_text(peer, channel, &[operator(nick)]));
-        self.give(Arrived::on(link), line, out)
+        let line = line_of(&njoin_text(peer, channel, &[member]));
+        self.give(from, line, out)
     }
 
     /// The server is given a line.
@@ -391,16 +394,13 @@ fn far_at(server: &Server, link: u64) -> Option<&ServerName>
     }
 }
 
-/// A member that comes as an operator.
-fn operator(nick: Nick) -> NewMember
-    ensures { told_member result ≡ (nick, record { op = true; voice = false }) }
+/// A member that comes as an operator, or as none.
+fn member(nick: Nick, op: bool) -> NewMember
+    ensures { told_member result ≡ (nick, record { op = op; voice = false }) }
 {
     NewMember {
         nick,
-        flags: Flags {
-            op: true,
-            voice: false,
-        },
+        flags: Flags { op, voice: false },
     }
 }
 

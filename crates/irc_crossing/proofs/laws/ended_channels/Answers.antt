@@ -1,5 +1,5 @@
-use Rattle.irc_crossing.proofs.Examples.{begun_is_asked, ended_is_asked, next_is_unset}
-use Rattle.irc_crossing.proofs.Examples.{others_are_not_asked}
+use Rattle.irc_crossing.proofs.Examples.{begun_is_asked, comer_is_brought, ended_is_asked}
+use Rattle.irc_crossing.proofs.Examples.{next_is_unset, others_are_not_asked}
 use Rattle.irc_crossing.proofs.laws.ended_channels.Goals as goal
 
 pub returns-clause-unset : goal.returns-clause-unset
@@ -10,6 +10,9 @@ returns-clause-ended c = ended_is_asked
 
 pub returns-clause-begun : goal.returns-clause-begun
 returns-clause-begun c = begun_is_asked
+
+pub returns-clause-brought : goal.returns-clause-brought
+returns-clause-brought c = comer_is_brought
 
 pub returns-clause-others : goal.returns-clause-others
 returns-clause-others c = others_are_not_asked
