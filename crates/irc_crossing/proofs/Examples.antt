@@ -146,4 +146,4 @@ others_are_not_asked = record { held = refl; other = refl; told = refl }
 
 pub comer_is_brought : ComerIsBrought
 unfolding read_of is_nick is_channel fold fold_table line_text cut
-comer_is_brought = record { ended = refl; spelled = refl; other = refl }
+comer_is_brought = record { anew = refl; spelled = refl; other = refl }

@@ -149,7 +149,7 @@ NextIsUnset =
 
 -- who comes to one that has ended here brings it, by the greatest of its spellings
 pub record ComerIsBrought : Type 0 where
-  pub ended : given (log_of 1 ended []) (codes "b.net") false (codes ":bea JOIN #c")
+  pub anew : given (log_of 1 ended []) (codes "b.net") false (codes ":bea JOIN #c")
       ≡ Brings (codes "bea") (codes "#c") false
   pub spelled : given (log_of 1 (begun (codes ":al JOIN #c") ∷ codes ":al PART #c :bye" ∷ []) [])
       (codes "b.net") false (begun (codes ":bea JOIN #C"))

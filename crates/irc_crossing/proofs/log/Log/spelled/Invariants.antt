@@ -6,4 +6,4 @@ use Rattle.irc_crossing.proofs.log.Log.spelled.Given as goal
 abbrev pub invariant-loop-entry : goal.invariant-loop-entry
 invariant-loop-entry l =
     spelled_in (l.entry-iterator.head.now ++ l.entry-iterator.wrapped.now) l.greatest
-    ≡ spelled_in l.self l.channel
+    ≡ spelled_in l.self l.fn.channel
