@@ -1,5 +1,5 @@
 -- Lines of a piece, one after another.
-use Rattle.std.proofs.Common.{◌≡◌, ℕ, Option, None, List, [], ◌∷◌, refl, sym, ap}
+use Rattle.std.proofs.Common.{◌≡◌, ℕ, Option, List, [], ◌∷◌, refl, sym, ap}
 use Rattle.std.proofs.Common.{subst, Bool, true, false, Result, Ok, Err, IfErr, OnOk}
 use Rattle.std.proofs.Common.{IsErrAnd}
 use Rattle.irc_server.specs.declared.event.Event.{Event}
@@ -7,7 +7,7 @@ use Rattle.irc_server.specs.declared.event.ServerFault.{ServerFault}
 use Rattle.irc_server.specs.declared.event.ServerFault.TheVariants.{Memory}
 use Rattle.irc_engine.specs.Machines.{is_out_of_memory}
 use Rattle.irc_pieces.specs.declared.count.Mark.{Mark}
-use Rattle.irc_layer.specs.Layers.{is_heard, Handles, HearsAll, HearsOne, IsRefusedBy}
+use Rattle.irc_layer.specs.Layers.{by_itself, is_heard, Handles, HearsAll, HearsOne, IsRefusedBy}
 use Rattle.irc_layer.specs.Layers.{Passes, State}
 use Rattle.irc_layer.specs.Layers.Handles.{passes, refuses, wants_memory}
 use Rattle.irc_layer.specs.Layers.HearsAll.{all_heard, hears_more}
@@ -53,7 +53,7 @@ module _ (old new : State) (event : Event) where
 
   -- an event that is no line of a link with an end
   pub passed_on : (r : Result (Unit {0}) ServerFault) → is_heard event old.layer.ends ≡ false
-      → OnOk r (Passes None event old new)
+      → OnOk r (Passes by_itself event old new)
       → IfErr r (λ fault. is_out_of_memory fault ≡ false → IsRefusedBy event old new fault)
       → Handles old event new r
   passed_on (Ok _) none passing refused = passes none passing

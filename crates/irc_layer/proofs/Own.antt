@@ -1,5 +1,5 @@
 -- The layer puts out lines of its own on a link.
-use Rattle.std.proofs.Common.{◌≡◌, ◌++◌, ℕ, Bool, false, Option, List, map, sym, ◌∙◌, ap}
+use Rattle.std.proofs.Common.{◌≡◌, ◌++◌, ℕ, Bool, false, Option, List, map, ◌∙◌, ap}
 use Rattle.std.proofs.Common.{OnOk, Result, Ok, Err, refl}
 use Rattle.std.specs.List.{list_any}
 use Rattle.irc_batch.specs.Batches.{Sent, line_on}
@@ -12,10 +12,10 @@ use Rattle.irc_layer.specs.Putting.{all_put, ends_behind_all}
 use Rattle.irc_layer.proofs.Connecting.{nobody_goes_by}
 use Rattle.irc_layer.proofs.Kept.{all_kept, lines_fail}
 
-module _ {E : Type 0} (link : ℕ) (lines : List (List ℕ)) (old : State) (held : List Sent)
+module _ (link : ℕ) (lines : List (List ℕ)) (old : State) (held : List Sent)
     (are : held ≡ map (line_on link) lines) where
   -- they are put out
-  pub puts_if_ok : (r : Result (Unit {0}) E) (ends : Ends) (outs : List Sent)
+  pub puts_if_ok : {E : Type 0} (r : Result (Unit {0}) E) (ends : Ends) (outs : List Sent)
       → OnOk r (outs ≡ old.outs ++ all_put by_itself held old.layer.ends)
       → OnOk r (ends ≡ ends_behind_all by_itself held old.layer.ends)
       → OnOk r (record { layer = record old.layer { ends = ends }; outs = outs }
@@ -35,7 +35,7 @@ module _ {E : Type 0} (link : ℕ) (lines : List (List ℕ)) (old : State) (held
       ∙ ap (list_any test) are ∙ lines_fail test none link lines
 
   -- and nobody goes by them
-  pub still_if_put : (r : Result (Unit {0}) E) (server : Option View) (outs : List Sent)
+  pub still_if_put : {E : Type 0} (r : Result (Unit {0}) E) (server : Option View) (outs : List Sent)
       → OnOk r (outs ≡ old.outs ++ all_put by_itself held old.layer.ends)
       → OnOk r (IsStillConnected server old.outs server outs)
   still_if_put (Ok _) server outs put =

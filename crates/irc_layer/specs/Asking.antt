@@ -3,7 +3,7 @@
 --   a.net writes    TELL #c
 --   b.net writes    :b.net NJOIN #c :bo
 --                   :b.net TOPIC #c :hello
-use Rattle.std.specs.Prelude.{ℕ, Bool, ◌&&◌, Option, Some, None, Result, Ok, Err, List, [], ◌∷◌}
+use Rattle.std.specs.Prelude.{ℕ, ◌&&◌, Option, Some, None, Result, Ok, Err, List, [], ◌∷◌}
 use Rattle.std.specs.Prelude.{codes, if◌then◌else◌}
 use Rattle.std.specs.Option.{is_none}
 use Rattle.irc_line.specs.declared.reading.LineFault.{LineFault}
@@ -15,13 +15,16 @@ use Rattle.irc_link_end.specs.LinkEnds.{counts}
 use Rattle.irc_crossing.specs.Lines.{word_at}
 use Rattle.irc_layer.specs.declared.end.End.{End}
 
-abbrev pub tell_parts : List ℕ → Written
-tell_parts channel = record {
+abbrev pub tell_line : (words : List (List ℕ)) → Written
+tell_line words = record {
   sender = nobody;
   command = codes "TELL";
-  middle = channel ∷ [];
+  middle = words;
   last = None;
 }
+
+abbrev pub tell_parts : List ℕ → Written
+tell_parts channel = tell_line (channel ∷ [])
 
 abbrev pub asked_in : Parsed → Option (List ℕ)
 asked_in message =

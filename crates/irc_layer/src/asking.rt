@@ -2,8 +2,9 @@
 ghost use Rattle.std.specs.Prelude.{◌≡◌};
 ghost use Rattle.irc_line.specs.MessageViews.{parsed};
 ghost use Rattle.irc_line.specs.Messages.{text};
+ghost use Rattle.irc_line.specs.PartViews.{words_now};
 ghost use Rattle.irc_line.specs.Reading.{read_of};
-ghost use Rattle.irc_layer.specs.Asking.{asked_by, asked_in, tell_parts};
+ghost use Rattle.irc_layer.specs.Asking.{asked_by, asked_in, tell_line, tell_parts};
 
 use crate::holding::first_word;
 use irc_line::{Message, Parts, Prefix, Text, parse, write_message};
@@ -14,10 +15,16 @@ use irc_names::ChannelName;
 pub(crate) fn tell_text(channel: &ChannelName) -> Text
     ensures { result.items ≡ text (tell_parts channel.now) }
 {
+    tell_line(&[channel.as_bytes()])
+}
+
+fn tell_line(words: &[&[u8]]) -> Text
+    ensures { result.items ≡ text (tell_line (words_now words.now)) }
+{
     write_message(&Parts {
         prefix: Prefix::Nothing,
         command: b"TELL",
-        middle: &[channel.as_bytes()],
+        middle: words,
         last: None,
     })
 }

@@ -118,7 +118,7 @@ impl End {
 
     /// The channel that the other end is asked to tell of upon a line; see [`Log::asked`].
     pub fn asks(&self, line: &[u8], peer: &[u8], is_held: bool) -> Option<ChannelName>
-        ensures { result ≡ asked self.log.now peer.now is_held line.now }
+        ensures { result ≡ asked self.now.log peer.now is_held line.now }
     {
         self.log.asked(line, peer, is_held)
     }

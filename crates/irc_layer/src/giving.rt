@@ -15,7 +15,7 @@ ghost use Rattle.irc_layer.specs.Putting.{body};
 
 use crate::asking::tell_text;
 use crate::end::{BY_ITSELF, Cause, body};
-use crate::holding::brought;
+use crate::holding::brought_by;
 use crate::layer::Layer;
 use crate::putting::{Ends, put_all};
 use irc_batch::Batch;
@@ -89,7 +89,7 @@ impl Layer {
         ensures connected { OnOk result (IsStillConnected self.old.server out.old.outs
             self.new.server out.new.outs) }
     {
-        let it = brought(&self.server, link, line.as_slice());
+        let it = brought_by(&self.server, link, line.as_slice());
         let peer = peer_of(&self.server, link);
         let channel = asks_at(&self.ends, link, line.as_slice(), peer, it.is_held());
         let given = give_at(&mut self.ends, link, line.as_slice(), peer, it.is_held())?;

@@ -38,7 +38,7 @@ impl Brought {
 }
 
 /// What a line brings that comes by a link.
-pub(crate) fn brought(server: &Server, link: u64, line: &[u8]) -> Brought
+pub(crate) fn brought_by(server: &Server, link: u64, line: &[u8]) -> Brought
     ensures { result ≡ brought_by server.now link (read_of line.now) }
 {
     match parse(line) {
