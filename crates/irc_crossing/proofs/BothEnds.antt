@@ -1,5 +1,5 @@
 -- Two changes, each done first at one end.
-use Rattle.std.proofs.Common.{◌≡◌, ℕ, Bool, true, false, ◌&&◌, ◌||◌, Option, Some, None, List}
+use Rattle.std.proofs.Common.{◌≡◌, ℕ, Bool, true, false, ◌||◌, Option, Some, None, List}
 use Rattle.std.proofs.Common.{refl, sym, ◌∙◌, ap, if◌then◌else◌, rules, nat_eq, true≢false}
 use Rattle.std.specs.Cmp.Lexicographic.{pointwise}
 use Rattle.std.specs.Option.{option_and_then, option_map_or, option_map}
@@ -108,21 +108,14 @@ set_agrees ours setting nick =
 
 -- ---- and so does who comes to a channel
 
-if_keeps : (b : Bool) (one other : Option Change) (nick : List ℕ)
-    → nick_after one nick ≡ Some nick → nick_after other nick ≡ Some nick
-    → nick_after (if b then one else other) nick ≡ Some nick
-if_keeps true one other nick first second = first
-if_keeps false one other nick first second = second
-
 pub join_keeps : (channel : List ℕ) (begins : Bool) (ours : Change) (nick : List ℕ)
-    → nick_after (join_behind channel begins ours) nick ≡ Some nick
+    → nick_after (Some (join_behind channel begins ours)) nick ≡ Some nick
 join_keeps channel begins (Come other) nick = refl
 join_keeps channel begins (Rename old new) nick = refl
 join_keeps channel begins (Go one other) nick = refl
 join_keeps channel begins (Out other from) nick = refl
 join_keeps channel begins (Set setting) nick = refl
-join_keeps channel begins (Join at other) nick =
-    if_keeps (begins && same channel at) None (Some (Join channel begins)) nick refl refl
+join_keeps channel begins (Join at other) nick = refl
 
 behind_join : (ours : Change) (channel : List ℕ) (begins : Bool) (nick : List ℕ)
     → nick_now ours nick ≡ nick_after (crossed ours (Join channel begins)) nick

@@ -92,21 +92,14 @@ set_members_agree ours setting channel nick =
 
 -- ---- and so does who comes to a channel
 
-if_keeps_members : (b : Bool) (one other : Option Change) (channel nick : List ℕ)
-    → member_after one channel nick ≡ Some nick → member_after other channel nick ≡ Some nick
-    → member_after (if b then one else other) channel nick ≡ Some nick
-if_keeps_members true one other channel nick first second = first
-if_keeps_members false one other channel nick first second = second
-
 join_keeps_members : (at : List ℕ) (begins : Bool) (ours : Change) (channel nick : List ℕ)
-    → member_after (join_behind at begins ours) channel nick ≡ Some nick
+    → member_after (Some (join_behind at begins ours)) channel nick ≡ Some nick
 join_keeps_members at begins (Come other) channel nick = refl
 join_keeps_members at begins (Rename old new) channel nick = refl
 join_keeps_members at begins (Go one other) channel nick = refl
 join_keeps_members at begins (Out other from) channel nick = refl
 join_keeps_members at begins (Set setting) channel nick = refl
-join_keeps_members at begins (Join from other) channel nick =
-    if_keeps_members (begins && same at from) None (Some (Join at begins)) channel nick refl refl
+join_keeps_members at begins (Join from other) channel nick = refl
 
 behind_join_in : (ours : Change) (at : List ℕ) (begins : Bool) (channel nick : List ℕ)
     → member_now ours channel nick ≡ member_after (crossed ours (Join at begins)) channel nick

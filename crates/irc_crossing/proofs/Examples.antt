@@ -7,7 +7,8 @@ use Rattle.irc_line.specs.Reading.{read_of}
 use Rattle.irc_names.specs.Fold.{fold, fold_table}
 use Rattle.irc_modes.specs.Modes.{is_limit}
 use Rattle.irc_names.specs.Names.{is_ban_mask, is_channel, is_key, is_nick}
-use Rattle.irc_crossing.specs.Examples.{BegunIsAsked, BegunIsOne, EndedIsAsked, NextIsUnset}
+use Rattle.irc_crossing.specs.Examples.{BegunIsAsked, BegunIsOne, BegunTwiceIsOne, EndedIsAsked}
+use Rattle.irc_crossing.specs.Examples.{NextIsUnset}
 use Rattle.irc_crossing.specs.Examples.{ComerIsBrought, OthersAreNotAsked}
 use Rattle.irc_crossing.specs.Examples.{GoneIsLeftOut, InviteIsLeftOut, KeyStays, KeyYields}
 use Rattle.irc_crossing.specs.Examples.{KickIsFollowed, KickIsSet, ModeIsSet, OperatorIsBrought}
@@ -127,6 +128,10 @@ operator_is_brought = refl
 pub begun_is_one : BegunIsOne
 unfolding read_of is_nick is_channel fold fold_table line_text cut
 begun_is_one = refl
+
+pub begun_twice_is_one : BegunTwiceIsOne
+unfolding read_of is_nick is_channel fold fold_table line_text cut
+begun_twice_is_one = refl
 
 pub next_is_unset : NextIsUnset
 unfolding read_of is_nick is_channel fold fold_table line_text cut

@@ -19,7 +19,7 @@
 --                           a.net does      nothing, and at b.net #c ends and begins anew
 -- Who takes a nickname is not the one who had it: that one is gone, also where no line has told so,
 -- as where a server is lost.
-use Rattle.std.specs.Prelude.{ℕ, Bool, false, ◌&&◌, ◌||◌, Option, Some, None, List}
+use Rattle.std.specs.Prelude.{ℕ, Bool, false, not, ◌&&◌, ◌||◌, Option, Some, None, List}
 use Rattle.std.specs.Prelude.{if◌then◌else◌}
 use Rattle.std.specs.Option.{option_and_then, option_map, option_map_or}
 use Rattle.irc_modes.specs.Letters.{names_member}
@@ -118,15 +118,15 @@ gone_of (Some one) other = Some (Go one other)
 gone_of None (Some other) = Some (Go other None)
 gone_of None None = None
 
--- Where both ends begin a channel, or it is there at the other end, it is one from then on.
-abbrev pub join_behind : (channel : List ℕ) → (begins : Bool) → Change → Option Change
-join_behind channel begins (Join at other) =
-    if begins && same channel at then None else Some (Join channel begins)
-join_behind channel begins (Come nick) = Some (Join channel begins)
-join_behind channel begins (Rename nick new) = Some (Join channel begins)
-join_behind channel begins (Go nick other) = Some (Join channel begins)
-join_behind channel begins (Out nick at) = Some (Join channel begins)
-join_behind channel begins (Set setting) = Some (Join channel begins)
+-- Where both ends begin a channel, or it is there at the other end, it is one from then on: it
+-- begins by neither.
+abbrev pub join_behind : (channel : List ℕ) → (begins : Bool) → Change → Change
+join_behind channel begins (Join at other) = Join channel (begins && not (same channel at))
+join_behind channel begins (Come nick) = Join channel begins
+join_behind channel begins (Rename nick new) = Join channel begins
+join_behind channel begins (Go nick other) = Join channel begins
+join_behind channel begins (Out nick at) = Join channel begins
+join_behind channel begins (Set setting) = Join channel begins
 
 -- what becomes of a change behind another one, where they do not give one nickname to two
 abbrev pub behind : (theirs ours : Change) → Option Change
@@ -136,7 +136,7 @@ behind (Go nick other) ours =
     gone_of (nick_now ours nick) (option_and_then (nick_now ours) other)
 behind (Out nick channel) ours =
     option_map (λ now. Out now channel) (member_now ours channel nick)
-behind (Join channel begins) ours = join_behind channel begins ours
+behind (Join channel begins) ours = Some (join_behind channel begins ours)
 behind (Set setting) ours = option_map Set (setting_behind ours setting)
 
 -- what becomes of a change of one end behind one of the other

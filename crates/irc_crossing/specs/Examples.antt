@@ -134,6 +134,15 @@ abbrev pub BegunIsOne : Type 0
 BegunIsOne = given (log_after (log_of 1 (begun (codes ":al JOIN #c") ∷ []) [])
     (begun (codes ":bo JOIN #c"))) (codes "b.net") true (codes ":bo MODE #c +i") ≡ AsItCame
 
+-- also where it was begun here twice: behind the first it is one with the other end's
+abbrev pub begun_twice : List (List ℕ)
+begun_twice = begun (codes ":al JOIN #c") ∷ codes ":al PART #c :bye"
+    ∷ begun (codes ":al JOIN #c") ∷ []
+
+abbrev pub BegunTwiceIsOne : Type 0
+BegunTwiceIsOne = given (log_after (log_of 1 begun_twice []) (begun (codes ":bo JOIN #c")))
+    (codes "b.net") true (codes ":bo MODE #c +i") ≡ AsItCame
+
 -- ---- a channel that has ended at one end
 
 abbrev pub ended : List (List ℕ)

@@ -192,23 +192,23 @@ impl Change {
                 let channel = channel.copy();
                 Some(Change::Out { nick, channel })
             }
-            Change::Join { channel, begins } => other.join_behind(channel, *begins),
+            Change::Join { channel, begins } => Some(other.join_behind(channel, *begins)),
             Change::Set(setting) => Some(Change::Set(other.setting_behind(setting)?)),
         }
     }
 
     /// What becomes behind it of somebody's coming to a channel: where both ends begin one, or one
     /// is there at the other end, it begins no more.
-    fn join_behind(&self, channel: &ChannelName, begins: bool) -> Option<Change>
+    fn join_behind(&self, channel: &ChannelName, begins: bool) -> Change
         ensures { result ≡ join_behind channel.now begins self.now }
     {
-        match self {
-            Change::Join { channel: at, .. } if begins && same(channel.as_bytes(), at.as_bytes()) =>
-                { None }
-            _ => Some(Change::Join {
-                channel: channel.copy(),
-                begins,
-            }),
+        let is_one = match self {
+            Change::Join { channel: at, .. } => same(channel.as_bytes(), at.as_bytes()),
+            _ => false,
+        };
+        Change::Join {
+            channel: channel.copy(),
+            begins: begins && !is_one,
         }
     }
 

@@ -1,7 +1,8 @@
 //! What holds of lines that cross, whatever is in the log and whatever comes. Each law is a
 //! function that does nothing, and its contract is the law: the check proves it, and a crate above
 //! may cite it.
-ghost use Rattle.irc_crossing.specs.Examples.{BegunIsAsked, BegunIsOne, EndedIsAsked, NextIsUnset};
+ghost use Rattle.irc_crossing.specs.Examples.{BegunIsAsked, BegunIsOne, BegunTwiceIsOne};
+ghost use Rattle.irc_crossing.specs.Examples.{EndedIsAsked, NextIsUnset};
 ghost use Rattle.irc_crossing.specs.Examples.{ComerIsBrought, OthersAreNotAsked};
 ghost use Rattle.irc_crossing.specs.Examples.{GoneIsLeftOut, InviteIsLeftOut, KeyStays};
 ghost use Rattle.irc_crossing.specs.Examples.{KeyYields, KickIsSet, ModeIsSet, OperatorIsBrought};
@@ -84,6 +85,7 @@ pub fn set_lines()
     ensures others { OthersStay }
     ensures brought { OperatorIsBrought }
     ensures one { BegunIsOne }
+    ensures twice { BegunTwiceIsOne }
 {}
 
 /// A channel that has ended at this end while somebody came to it at the other.

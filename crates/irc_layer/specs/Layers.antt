@@ -214,10 +214,10 @@ given_at (Some end) peer is_held line = given end.log peer is_held line
 -- ---- what the layer puts out itself
 
 -- lines on a link, each of which is a piece
-abbrev pub puts_out : ℕ → List (List ℕ) → State → State
-puts_out link lines state =
-    putting (all_put by_itself (map (line_on link) lines) state.layer.ends)
-    (with_ends (ends_behind_all by_itself (map (line_on link) lines) state.layer.ends) state)
+abbrev pub puts_out : Cause → ℕ → List (List ℕ) → State → State
+puts_out cause link lines state =
+    putting (all_put cause (map (line_on link) lines) state.layer.ends)
+    (with_ends (ends_behind_all cause (map (line_on link) lines) state.layer.ends) state)
 
 -- the other end is asked to tell of a channel, unless the link was closed by what it wrote
 abbrev pub asked_at : Option End → (peer : List ℕ) → (is_held : Bool) → List ℕ → Option (List ℕ)
@@ -227,13 +227,21 @@ asked_at (Some end) peer is_held line = asked end.log peer is_held line
 abbrev pub asking : Option (List ℕ) → ℕ → State → State
 asking None link state = state
 asking (Some channel) link state =
-    if is_some (state.layer.ends link) then puts_out link (text (tell_parts channel) ∷ []) state
-    else state
+    if is_some (state.layer.ends link)
+    then puts_out by_itself link (text (tell_parts channel) ∷ []) state else state
 
--- and what is told of one
-abbrev pub told_of : Option View → ℕ → (channel : List ℕ) → List (List ℕ)
-told_of None link channel = []
-told_of (Some view) link channel = map text (channel_parts view.room view.routes link channel)
+-- and what is told of one: all of it, whoever of it is left there by then. Lines are marked, for
+-- what is set there is set also where no member is behind the link. No link has the number
+-- 2^64 - 1, so that all members are on this side of it.
+abbrev pub no_link : ℕ
+no_link = 18446744073709551615
+
+abbrev pub told_of : Option View → (channel : List ℕ) → List (List ℕ)
+told_of None channel = []
+told_of (Some view) channel = map text (channel_parts view.room view.routes no_link channel)
+
+abbrev pub by_telling : Cause
+by_telling = record { arrival = None; mark = Some Set; begins = false }
 
 -- ---- a line of a piece
 
@@ -254,7 +262,7 @@ abbrev pub HearsBy : (channel : Option (List ℕ)) → Option Mark → ℕ → L
     → Type 0
 HearsBy None mark link line old new = HearsOther mark link line old new
 HearsBy (Some channel) mark link line old new =
-    new ≡ puts_out link (told_of old.layer.server link channel) old
+    new ≡ puts_out by_telling link (told_of old.layer.server channel) old
 
 abbrev pub HearsOne : Option Mark → ℕ → List ℕ → State → State → Type 0
 HearsOne mark link line old new =

@@ -8,9 +8,9 @@ ghost use Rattle.irc_engine.specs.Machines.{is_out_of_memory, IsStillConnected};
 ghost use Rattle.irc_engine.specs.Noting.{far_of};
 ghost use Rattle.irc_layer.specs.Asking.{asked_of};
 ghost use Rattle.irc_layer.specs.Ends.{change_end, end_at, met_if, with_log_after};
-ghost use Rattle.irc_layer.specs.Layers.{asked_at, asking, given_at, peer_of, puts_out, state_of};
-ghost use Rattle.irc_layer.specs.Layers.{told_of, BringsOne, Does, Gives, GivesAs, GivesKill};
-ghost use Rattle.irc_layer.specs.Layers.{GivesKills, HearsOne, HearsOther, Sets};
+ghost use Rattle.irc_layer.specs.Layers.{asked_at, asking, by_telling, given_at, peer_of, puts_out};
+ghost use Rattle.irc_layer.specs.Layers.{state_of, told_of, BringsOne, Does, Gives, GivesAs};
+ghost use Rattle.irc_layer.specs.Layers.{GivesKill, GivesKills, HearsOne, HearsOther, Sets};
 ghost use Rattle.irc_layer.specs.Putting.{body};
 
 use crate::asking::tell_text;
@@ -31,6 +31,16 @@ use std::alloc::{AllocError, Global};
 
 /// The number that each server has for itself on a link (RFC 2813 section 4.1.2).
 const ITS_OWN: u32 = 1;
+
+/// A number that no link has: all members of a channel are on this side of it.
+const NO_LINK: u64 = u64::MAX;
+
+/// The layer tells what is set, also where no member is behind the link.
+const BY_TELLING: Cause = Cause {
+    arrival: None,
+    mark: Some(Mark::Set),
+    begins: false,
+};
 
 /// A line of a piece that has come.
 #[derive(Clone, Copy, Drop)]
@@ -142,7 +152,7 @@ impl Layer {
     {
         match channel {
             Some(channel) if self.ends.contains_key(&link) => {
-                self.put_out(link, &[tell_text(&channel)], out)
+                self.put_out(BY_ITSELF, link, &[tell_text(&channel)], out)
             }
             _ => Ok(()),
         }
@@ -155,25 +165,31 @@ impl Layer {
         channel: &ChannelName,
         out: &mut Batch,
     ) -> Result<(), AllocError>
-        ensures tells { OnOk result (state_of self.new out.new ≡ puts_out link
-            (told_of self.old.server link channel.now) (state_of self.old out.old)) }
+        ensures tells { OnOk result (state_of self.new out.new ≡ puts_out by_telling link
+            (told_of self.old.server channel.now) (state_of self.old out.old)) }
         ensures connected { OnOk result (IsStillConnected self.old.server out.old.outs
             self.new.server out.new.outs) }
     {
-        let lines = told_of(self.alloc, &self.server, link, channel)?;
-        self.put_out(link, lines.as_slice(), out)
+        let lines = told_of(self.alloc, &self.server, channel)?;
+        self.put_out(BY_TELLING, link, lines.as_slice(), out)
     }
 
     /// The layer puts out lines of its own on a link.
-    fn put_out(&mut self, link: u64, lines: &[Text], out: &mut Batch) -> Result<(), AllocError>
+    fn put_out(
+        &mut self,
+        cause: Cause,
+        link: u64,
+        lines: &[Text],
+        out: &mut Batch,
+    ) -> Result<(), AllocError>
         ensures puts { OnOk result (state_of self.new out.new
-            ≡ puts_out link (lines_now lines.now) (state_of self.old out.old)) }
+            ≡ puts_out cause link (lines_now lines.now) (state_of self.old out.old)) }
         ensures connected { OnOk result (IsStillConnected self.old.server out.old.outs
             self.new.server out.new.outs) }
     {
         self.held.clear();
         hold_all(&mut self.held, link, lines)?;
-        put_all(&mut self.ends, BY_ITSELF, &mut self.held, out)
+        put_all(&mut self.ends, cause, &mut self.held, out)
     }
 
     /// The server does what a line says: one that is marked is set, another is given.
@@ -326,19 +342,18 @@ fn asks_at(ends: &Ends, link: u64, line: &[u8], peer: &[u8], is_held: bool) -> O
     ends.get(&link)?.asks(line, peer, is_held)
 }
 
-/// What the other end of a link is told of a channel.
+/// What the other end of a link is told of a channel: all of it, whoever of it is left there.
 fn told_of(
     alloc: Global,
     server: &Server,
-    link: u64,
     channel: &ChannelName,
 ) -> Result<Vec<Text, Global>, AllocError>
     ensures { IfOk result
-        (λ lines. lines_now lines.items ≡ told_of server.now link channel.now) }
+        (λ lines. lines_now lines.items ≡ told_of server.now channel.now) }
 {
     match (server.room(), server.routes()) {
         (Some(room), Some(routes)) => {
-            channel_burst(alloc, room, routes, link, channel.as_bytes())
+            channel_burst(alloc, room, routes, NO_LINK, channel.as_bytes())
         }
         _ => Ok(Vec::new(alloc)),
     }

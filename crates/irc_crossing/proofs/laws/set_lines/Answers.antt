@@ -1,4 +1,5 @@
-use Rattle.irc_crossing.proofs.Examples.{begun_is_one, key_yields, operator_is_brought}
+use Rattle.irc_crossing.proofs.Examples.{begun_is_one, begun_twice_is_one, key_yields}
+use Rattle.irc_crossing.proofs.Examples.{operator_is_brought}
 use Rattle.irc_crossing.proofs.Examples.{operator_stays}
 use Rattle.irc_crossing.proofs.Examples.{others_stay, private_yields, topic_stays, topic_yields}
 use Rattle.irc_crossing.proofs.laws.set_lines.Goals as goal
@@ -20,6 +21,9 @@ returns-clause-operator c = operator_stays
 
 pub returns-clause-others : goal.returns-clause-others
 returns-clause-others c = others_stay
+
+pub returns-clause-twice : goal.returns-clause-twice
+returns-clause-twice c = begun_twice_is_one
 
 pub returns-clause-one : goal.returns-clause-one
 returns-clause-one c = begun_is_one

@@ -9,7 +9,8 @@ use Rattle.irc_layer.proofs.layer.Layer.put_out.Goals as goal
 pub returns-clause-puts : goal.returns-clause-puts
 returns-clause-puts c =
     let lines = lines_now c.args.lines.now in
-    puts_if_ok c.args.link lines (state_of c.args.self.now c.args.out.now) c.hold_all.new.held.outs
+    puts_if_ok c.args.cause c.args.link lines (state_of c.args.self.now c.args.out.now)
+    c.hold_all.new.held.outs
     (c.in_ok-hold_all.ensures
     ∙ ap (λ b. b.outs ++ map (line_on c.args.link) lines) c.clear.ensures)
     c.put_all.result (end_at c.put_all.new.ends) c.put_all.new.out.outs c.put_all.ensures.outs
@@ -18,7 +19,7 @@ returns-clause-puts c =
 pub returns-clause-connected : goal.returns-clause-connected
 returns-clause-connected c =
     let lines = lines_now c.args.lines.now in
-    still_if_put c.args.link lines (state_of c.args.self.now c.args.out.now)
+    still_if_put c.args.cause c.args.link lines (state_of c.args.self.now c.args.out.now)
     c.hold_all.new.held.outs
     (c.in_ok-hold_all.ensures
     ∙ ap (λ b. b.outs ++ map (line_on c.args.link) lines) c.clear.ensures)
