@@ -3,7 +3,7 @@ on one of the two ways, or were made there by somebody else: those are told agai
 
 import collections
 
-from crossing import crossed, related, through
+from crossing import related, through
 from effects import (EMPTY, HIDDEN, KEY, LIMIT, NOTHING, OPERATOR, SPELLING, TOPIC, VOICE, Come, Go, Join, Named, Out, Own, Person,
                      Rename, Room, Set, Spoken, all_done, ban, done, flag, in_order, rank, value_at)
 from lost import lost, taken_back

@@ -344,9 +344,9 @@ def changes_left(writer, reader, tale, values, names):
 
 
 def join_asked(writer, reader, tale, became):
-    """JOIN, NJOIN, and MODE and TOPIC that raise."""
+    """JOIN, NJOIN, and MODE and TOPIC that raise. A channel that is not there does not begin where nobody is left to come to it."""
     join = became[0]
-    if join == NOTHING or not (join.members or join.values):
+    if join == NOTHING or not (join.members or join.values and join.channel in reader.room.channels):
         return []
     if tale.command in (b"MODE", b"TOPIC"):
         return raise_asked(writer, reader, tale, join)
@@ -430,10 +430,11 @@ ASKED = {Come: come_asked, Rename: rename_asked, Go: go_asked, Own: own_asked, O
 
 def channel_lines(teller, server, channel):
     """A channel as a burst tells it, but for members behind the link; no lines if there are no others."""
-    there = teller.room.channels[channel]
-    name, near = there.row[SPELLING], [each for each in sorted(there.members.items()) if not teller.is_far(each[0])]
+    there = teller.room.channels.get(channel, NO_CHANNEL)
+    near = [each for each in sorted(there.members.items()) if not teller.is_far(each[0])]
     if not near:
         return []
+    name = there.row[SPELLING]
     lines = [njoin(teller.room, server, name, group) for group in groups(near, MEMBERS)]
     lines += [written(server, b"MODE", [name, *changes_written(changes)]) for changes in row_changes(there.row)]
     return lines + ([written(server, b"TOPIC", [name], there.row[TOPIC])] if TOPIC in there.row else [])
