@@ -132,6 +132,15 @@ def through(theirs, log):
     return theirs, tuple((number, ours) for number, ours in behind if does_something(ours))
 
 
+def all_through(effects, log):
+    """The same of effects in turn."""
+    became = []
+    for theirs in effects:
+        left, log = through(theirs, log)
+        became.append(left)
+    return became, log
+
+
 def related(theirs, log):
     """The part of a log that matters to an effect: who has which nickname, and what is of its channel. Behind the rest of it the same becomes
     of it, so that a line need not be taken past all that is on its way."""

@@ -45,8 +45,8 @@ may have read much already.
 
 from typing import NamedTuple
 
-from crossing import does_something, through
-from effects import EMPTY, Go, Join, Joined, Made, Out, Room, Set, all_done, done
+from crossing import all_through, does_something
+from effects import EMPTY, Go, Join, Joined, Made, Out, Room, Set, all_done
 from lines import MARK, Reader, asked, tale
 from servers import fold, parse
 
@@ -66,8 +66,9 @@ class End(NamedTuple):
     """What one end of a link keeps of it."""
 
     base: Room              # the room that the other end had when it wrote what came last
-    log: tuple              # what was put out and not counted as read: numbers of pieces, and effects
-    here: Room              # the server's own room: the base behind the log
+    log: tuple              # what was put out and not counted as read: numbers of pieces, and effects; by it is judged what comes
+    due: tuple              # the same, as the other end will have it done; from it the base is made
+    here: Room              # the server's own room: at rest the base behind what is due
     out: tuple              # pieces of this event
     sent: int               # pieces put out
     told: int               # the count that was put out last
@@ -76,7 +77,7 @@ class End(NamedTuple):
     greeted: bool           # the other end has named itself: from here on there are pieces
 
 
-NEW = End(EMPTY, (), EMPTY, (), 0, 0, 0, 0, False)
+NEW = End(EMPTY, (), (), EMPTY, (), 0, 0, 0, 0, False)
 
 
 def with_line(end, line, effects, is_set, most):
@@ -86,8 +87,8 @@ def with_line(end, line, effects, is_set, most):
     else:
         out = (*end.out, Piece((line,), is_set))
     kept = [effect for effect in effects if does_something(effect)]
-    log = (*end.log, *((end.sent + len(out), effect) for effect in kept))
-    return end._replace(out=out, log=log, here=all_done(end.here, kept))
+    more = tuple((end.sent + len(out), effect) for effect in kept)
+    return end._replace(out=out, log=end.log + more, due=end.due + more, here=all_done(end.here, kept))
 
 
 def goes_with(last, line, is_set, most):
@@ -109,10 +110,9 @@ def goes_on(before, line):
 
 def counted(end, count):
     """An end whose other end has read so many pieces: what they did it has done."""
-    base, log = end.base, end.log
-    while log and log[0][0] <= count:
-        base, log = done(base, log[0][1]), log[1:]
-    return end._replace(base=base, log=log, heard=count)
+    base = all_done(end.base, [effect for number, effect in end.due if number <= count])
+    log, due = (tuple(entry for entry in entries if entry[0] > count) for entries in (end.log, end.due))
+    return end._replace(base=base, log=log, due=due, heard=count)
 
 
 def flushed(end):
@@ -145,14 +145,10 @@ def meant(end, side, line, is_set):
     `side` is what the server knows of the link."""
     writer, reader = Reader(end.base, side), Reader(end.here, side)
     told = tale(line, writer, is_set)
-    base, log, became = end.base, end.log, []
-    for effect in told.effects:
-        left, log = through(effect, log)
-        base = done(base, effect)
-        became.append(left)
-    for entry in entries(told, False):
-        _, log = through(entry, log)
-    behind = end._replace(base=base, log=log, here=all_done(end.here, became))
+    became, log = all_through([*told.effects, *entries(told, False)], end.log)
+    _, due = all_through([*told.effects, *entries(told, is_new(end.base, told))], end.due)
+    became = became[:len(told.effects)]
+    behind = end._replace(base=all_done(end.base, told.effects), log=log, due=due, here=all_done(end.here, became))
     return asked(writer, reader, told, became), behind, channel_asked(end, side, told)
 
 
@@ -173,8 +169,19 @@ def comes_to(told):
     return told.words[0].removesuffix(MARK) if told.command in (b"JOIN", b"NJOIN") and told.effects else None
 
 
+def is_new(room, told):
+    """Whether somebody comes by a line to a channel that is not there."""
+    return comes_to(told) is not None and fold(comes_to(told)) not in room.channels
+
+
 def entries(told, begins):
-    """What stands in a log beside who comes by a line. `begins` is whether the line is passed on, and the channel begins here by it."""
+    """What stands in a log beside who comes by a line. `begins` is whether the channel was not there before. Of a line that comes that is not
+    told, and no program has a base to see it by: it is judged by its mark.
+
+        a.net writes    :al MODE #c +k x
+        b.net writes    :bea KICK #c al :out, :bea PART #c :bye, and :cy JOIN #c, which came from c.net, and by which #c begins
+        b.net does      nothing upon the MODE, and a.net has it in its log still
+    """
     name = comes_to(told)
     if name is None:
         return []
@@ -188,10 +195,15 @@ def is_marked(told):
 def channel_asked(end, side, told):
     """The channel of which the other end is asked upon a line, before that is given, or None."""
     name = comes_to(told)
-    if name is None or fold(name) in end.here.channels and not was_made(end.log, fold(name)):
-        return None
-    is_own = told.prefix == side.peer
-    return name if is_told_of(end.log, fold(name)) or not is_own and is_somebody_gone(end.log) else None
+    return name if name is not None and may_lack(end.here, end.log, fold(name), told.prefix == side.peer) else None
+
+
+def may_lack(room, log, name, is_own):
+    """Whether what is set in a channel at the other end may not be set here, as somebody comes to it. `is_own` is whether the server there tells
+    so of itself."""
+    if name in room.channels and not was_made(log, name):
+        return False
+    return is_told_of(log, name) or not is_own and is_somebody_gone(log)
 
 
 def was_made(log, name):

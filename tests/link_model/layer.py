@@ -187,11 +187,11 @@ class Layer:
         return [link for link, end in sorted(self.ends.items()) if end.greeted and end.here != room]
 
     def faults_at_rest(self):
-        """What is wrong inside where nothing is on its way: the base behind the log is to be the server's room. Before that a channel that has
-        ended here has what was set in the one, and is not told again yet in the other."""
+        """What is wrong inside where nothing is on its way: the base behind what is due is to be the server's room. Before that a channel that has
+        ended here has what was set in the one, and is not told yet in the other."""
         room = room_of(self.server)
         return [link for link, end in sorted(self.ends.items()) if end.greeted and
-                all_done(end.base, [effect for _, effect in end.log]) != room]
+                all_done(end.base, [effect for _, effect in end.due]) != room]
 
 
 class Bare(Layer):
