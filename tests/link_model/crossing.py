@@ -28,8 +28,10 @@ def crossed(theirs, ours):
         return gone_dropped(theirs, ours)
     if channel_of(ours) is None or channel_of(ours) != channel_of(theirs):
         return theirs
-    if is_of_old_life(theirs, ours) or is_one_life(theirs, ours):
+    if is_of_old_life(theirs, ours):
         return NOTHING
+    if is_one_life(theirs, ours):
+        return one_life(theirs)
     if isinstance(ours, (Join, Set)) and isinstance(theirs, (Join, Set)):
         return replace(theirs, values=tuple((place, value) for place, value in theirs.values if stays(theirs, ours, place)))
     return theirs
@@ -98,13 +100,18 @@ def is_of_old_life(theirs, ours):
 
 
 def is_one_life(theirs, ours):
-    """Whether theirs makes a channel that ours makes too, or to which somebody comes by ours: from then on it is one, and what is set in it
-    behind that is given.
+    """Whether theirs makes a channel that ours makes too, or to which somebody comes by ours. It is one from then on, as often as it began here
+    meanwhile: what is set in it behind that is given.
 
-        a.net writes    :al JOIN #c\\7o, :al MODE #c +k x       b.net writes    :bo JOIN #c\\7o, :bo MODE #c +l 5
-        a.net is given  :b.net NJOIN #c :@bo, :bo MODE #c +l 5
+        a.net writes    :al JOIN #c\\7o, :al PART #c :bye, :al JOIN #c\\7o       b.net writes    :bo JOIN #c\\7o, :bo MODE #c -o bo
+        a.net is given  :b.net NJOIN #c :@bo, :bo MODE #c -o bo
     """
     return isinstance(theirs, Made) and isinstance(ours, (Made, Joined))
+
+
+def one_life(theirs):
+    """Somebody comes to a channel that is there."""
+    return Joined(theirs.channel)
 
 
 def stays(theirs, ours, place):

@@ -166,7 +166,8 @@ def is_echo(link, arrival, command):
 
 def comes_to(told):
     """The name of the channel to which somebody comes by a JOIN or NJOIN, or None."""
-    return told.words[0].removesuffix(MARK) if told.command in (b"JOIN", b"NJOIN") and told.effects else None
+    comes = told.command in (b"JOIN", b"NJOIN") and any(isinstance(effect, Join) and effect.members for effect in told.effects)
+    return told.words[0].removesuffix(MARK) if comes else None
 
 
 def is_new(room, told):
