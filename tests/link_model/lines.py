@@ -90,6 +90,11 @@ class Reader(NamedTuple):
         """Whether somebody behind the link has a nickname."""
         return nick in self.room.people and self.room.people[nick].home in self.side.homes.values()
 
+    def has_near(self, channel):
+        """Whether a channel has a member that is not behind the link."""
+        there = self.room.channels.get(channel)
+        return there is not None and not all(map(self.is_far, there.members))
+
     def has_far(self, channel):
         """Whether a channel has a member behind the link."""
         there = self.room.channels.get(channel)
@@ -429,13 +434,12 @@ ASKED = {Come: come_asked, Rename: rename_asked, Go: go_asked, Own: own_asked, O
 
 
 def channel_lines(teller, server, channel):
-    """A channel as a burst tells it, but for members behind the link; no lines if there are no others."""
-    there = teller.room.channels.get(channel, NO_CHANNEL)
-    near = [each for each in sorted(there.members.items()) if not teller.is_far(each[0])]
-    if not near:
+    """A channel as a burst tells it, but for members behind the link. If there are no others, an NJOIN of nobody tells the spelling."""
+    if channel not in teller.room.channels:
         return []
-    name = there.row[SPELLING]
-    lines = [njoin(teller.room, server, name, group) for group in groups(near, MEMBERS)]
+    there = teller.room.channels[channel]
+    name, near = there.row[SPELLING], [each for each in sorted(there.members.items()) if not teller.is_far(each[0])]
+    lines = [njoin(teller.room, server, name, group) for group in groups(near, MEMBERS) or [[]]]
     lines += [written(server, b"MODE", [name, *changes_written(changes)]) for changes in row_changes(there.row)]
     return lines + ([written(server, b"TOPIC", [name], there.row[TOPIC])] if TOPIC in there.row else [])
 
