@@ -93,9 +93,13 @@ def with_line(end, line, effects, is_set, most):
 
 def goes_with(last, line, is_set, most):
     """Whether a line is part of the piece before it. A TELL is a piece of its own, so that it is read behind all of what its end had done."""
-    if is_set or last.is_set or channel_told(line) or channel_told(last.lines[-1]):
+    if is_set or last.is_set or is_alone(line) or is_alone(last.lines[-1]):
         return False
     return len(last.lines) < most or goes_on(last.lines[-1], line)
+
+
+def is_alone(line):
+    return channel_told(line) is not None
 
 
 def goes_on(before, line):

@@ -8,7 +8,7 @@ where no line of its form does it, a line or a deed by the server at the other e
 from dataclasses import dataclass
 from typing import NamedTuple
 
-from effects import (HIDDEN, KEY, LIMIT, NO_CHANNEL, NOTHING, OPERATOR, SPELLING, TOPIC, VOICE, Come, Go, Join, Named, Out, Own, Person,
+from effects import (HIDDEN, KEY, LIMIT, NOTHING, OPERATOR, SPELLING, TOPIC, VOICE, Come, Go, Join, Named, Out, Own, Person,
                      Rename, Room, Set, Spoken, ban, flag, in_order, rank, value_at)
 from servers import Change, changes_of, changes_written, fold, is_server, parse, written
 
@@ -349,9 +349,9 @@ def changes_left(writer, reader, tale, values, names):
 
 
 def join_asked(writer, reader, tale, became):
-    """JOIN, NJOIN, and MODE and TOPIC that raise. A channel that is not there does not begin where nobody is left to come to it."""
+    """JOIN, NJOIN, and MODE and TOPIC that raise."""
     join = became[0]
-    if join == NOTHING or not (join.members or join.values and join.channel in reader.room.channels):
+    if join == NOTHING or not (join.members or join.values):
         return []
     if tale.command in (b"MODE", b"TOPIC"):
         return raise_asked(writer, reader, tale, join)
@@ -395,12 +395,14 @@ def joins_plainly(writer, reader, join):
 
 def spells_alone(reader, join):
     """Whether nobody comes by an NJOIN, and its spelling is the greater one: a server takes it with somebody who comes, and so else it is a
-    deed. That is where a channel is told again.
+    deed. That is where a channel is told.
 
-        b.net has       #C, which bo has made anew with :bo JOIN #C; b.net was told
+        b.net has       #C, which bo has made anew with :bo JOIN #C\\7o, and writes TELL #c upon :al JOIN #c
         a.net writes    :a.net NJOIN #c :al, :a.net MODE #c +n
     """
-    there = reader.room.channels.get(join.channel, NO_CHANNEL).members
+    if join.channel not in reader.room.channels:
+        return False
+    there = reader.room.channels[join.channel].members
     return reader.raises(join.channel, SPELLING, dict(join.values)[SPELLING]) and all(nick in there for nick, _ in join.members)
 
 

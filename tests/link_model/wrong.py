@@ -6,12 +6,17 @@ import crossing
 import ends
 import layer
 import lines
-from effects import Go, Out, rank
+from effects import NOTHING, Go, Out, rank
 
 
 def followed_but_by_kill(theirs, ours):
     """A KILL hits whoever has the nickname now."""
     return theirs if isinstance(theirs, Go) else RIGHT["name_followed"](theirs, ours)
+
+
+def as_line(writer, reader, tale, join):
+    """What a server raises is given as a line alone, which is taken where the channel has a member behind the link."""
+    return RIGHT["raise_asked"](writer, reader, tale, join) if reader.has_far(join.channel) else []
 
 
 def lagging(end, count):
@@ -36,6 +41,11 @@ WRONG = {
     "begins by the mark": (ends, "is_marked", lambda told: False),
     "two lives": (crossing, "is_of_old_life", lambda theirs, ours: False),
     "one life": (crossing, "is_one_life", lambda theirs, ours: False),
+    "one life from then on": (crossing, "one_life", lambda theirs: NOTHING),
+    "told where nobody is": (lines.Reader, "has_near", lambda self, channel: True),
+    "raised where nobody is": (lines, "raise_asked", as_line),
+    "told in a piece of its own": (ends, "is_alone", lambda line: False),
+    "begins at the other end": (ends, "is_new", lambda room, told: False),
     "spelling told": (lines, "spells_alone", lambda reader, join: False),
     "echo": (layer, "is_echo", lambda link, arrival, command: False),
     "count": (layer, "counted", lagging),
