@@ -176,8 +176,8 @@ def rest_tried(given, count, length, tries, calm):
     return told(f"at rest on {count} servers: {tries} scripts, {lines} lines, {short} cut short", faults, given, began)
 
 
-TRIES = {"seldom": try_seldom, "diamond": try_diamond, "orders": try_orders, "lives": try_lives, "scripts": try_scripts, "seen": try_seen, "rest": try_rest,
-         "unchanged": try_unchanged}
+TRIES = {"seldom": try_seldom, "diamond": try_diamond, "orders": try_orders, "lives": try_lives, "scripts": try_scripts, "seen": try_seen,
+         "rest": try_rest, "unchanged": try_unchanged}
 
 
 def tried(given):

@@ -21,8 +21,12 @@ without members. So this end asks, by a line of the layer that is a piece of its
     a.net writes    TELL #c                     behind the JOIN, by which it has #c without the key
     b.net writes    :b.net NJOIN #c :bo, :b.net MODE #c +nk x
 
-What is told raises: each place has the greater of what it has and what is told. It is what is set as the TELL is read, of which the asking end
-may have read much already.
+What is told raises: each place has the greater of what it has and what is told. It is what is set as the TELL is read. By then it may be that all
+members at the other end are behind the link; it is told then as by a server that sets, for where no member is behind a link nothing is raised.
+
+    b.net writes    :bo PART #c :bye, and reads :ann JOIN #c, TELL #c
+    b.net writes    COUNT 17 1 set
+                    :b.net MODE #c +nk x
 
 - Whether this end asks is known as a JOIN or NJOIN comes, by its log and its room; it asks behind what its server puts out upon the line. Where
   the channel is here, and was not made here behind what the other end had read, both have one life of it. Else it may have ended here, if the

@@ -63,13 +63,13 @@ SELDOM = {
     "a channel is made twice": (2, 1, [*TWO, "0 JOIN #c", "0 PART #c", "0 JOIN #c", "1 JOIN #c", "1 MODE #c -o n2"]),
     # a.net reads who is in #c at b.net, kicks that one, and reads what is set in #c
     "who is alone is kicked as a burst comes": (2, 1, [
-        "a.net n1", "b.net n2", "0 JOIN #c", "1 JOIN #c", "1 MODE #c +k x", "link a.net b.net", "deliver -1", "deliver -1", "deliver 0", "deliver 0",
-        "deliver -1", "deliver -1", "0 KICK #c n2"]),
+        "a.net n1", "b.net n2", "0 JOIN #c", "1 JOIN #c", "1 MODE #c +k x", "link a.net b.net", "deliver -1", "deliver -1", "deliver 0",
+        "deliver 0", "deliver -1", "deliver -1", "0 KICK #c n2"]),
     # b.net reads of a topic where #c is not there. It begins by n3, who comes from c.net, and then n4 comes from a.net
     "a channel begins by who is passed on": (3, 1, [
-        "link a.net b.net", "link b.net c.net", "settle", "a.net n1", "b.net n2", "c.net n3", "a.net n4", "settle", "0 JOIN #c", "settle", "1 JOIN #c",
-        "settle", "0 MODE #c +o n2", "settle", "1 KICK #c n1", "1 PART #c", "2 JOIN #c", "0 TOPIC #c :t1", "3 JOIN #c", "deliver 0", "deliver -1",
-        "deliver 0"]),
+        "link a.net b.net", "link b.net c.net", "settle", "a.net n1", "b.net n2", "c.net n3", "a.net n4", "settle", "0 JOIN #c", "settle",
+        "1 JOIN #c", "settle", "0 MODE #c +o n2", "settle", "1 KICK #c n1", "1 PART #c", "2 JOIN #c", "0 TOPIC #c :t1", "3 JOIN #c",
+        "deliver 0", "deliver -1", "deliver 0"]),
     # the topic is nothing at b.net, which a.net sees by its base alone
     "what is set before who is passed on": (3, 1, [
         "link a.net b.net", "link b.net c.net", "settle", "a.net n1", "b.net n2", "c.net n3", "settle", "0 JOIN #c", "settle", "1 JOIN #c", "settle",

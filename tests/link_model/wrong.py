@@ -44,7 +44,6 @@ WRONG = {
     "one life from then on": (crossing, "one_life", lambda theirs: NOTHING),
     "told where nobody is": (lines.Reader, "has_near", lambda self, channel: True),
     "raised where nobody is": (lines, "raise_asked", as_line),
-    "told in a piece of its own": (ends, "is_alone", lambda line: False),
     "begins at the other end": (ends, "is_new", lambda room, told: False),
     "spelling told": (lines, "spells_alone", lambda reader, join: False),
     "echo": (layer, "is_echo", lambda link, arrival, command: False),
