@@ -1,7 +1,7 @@
 #!/usr/bin/env python3
 """A link is a document that two ends edit: a model of the layer that makes the two agree, tried in every order and by chance.
 
-    python3 tests/link_model.py [--what all|seldom|diamond|orders|scripts|seen|rest|unchanged] [--servers N] [--things N] [--tries N]
+    python3 tests/link_model.py [--what all|seldom|diamond|orders|lives|scripts|seen|rest|unchanged] [--servers N] [--things N] [--tries N]
                                 [--seed S] [--calm] [--cuts] [--piece N] [--count-within N] [--plain] [--bound N] [--without RULE] [--show N]
 
 Not part of the gate, and of no program: a model, from which the definitions are taken. Servers are those of hostile_links/model.py, which
@@ -10,29 +10,31 @@ read, takes each line that comes as the effects that it tells, and gives the ser
     link_model/effects.py       what a line tells, and what that does to a room
     link_model/crossing.py      the rules: what becomes of an effect that crossed others
     link_model/lines.py         lines as effects, and effects as what the server is asked for
-    link_model/ends.py          one end of a link: its log, pieces and counts, and the channels that it tells again
+    link_model/ends.py          one end of a link: its log, pieces and counts, and the channels of which it asks the other end
     link_model/layer.py         the ends of all links of a server, around it
 
-A channel that ended at one end, while somebody came to it at the other, is made anew at the first without what was set, and the other end
-tells it again, as a burst does. So each end has its server's room at any time, and the base behind its log is that room at rest, which is
-looked at there.
+A channel that ended at one end, while somebody came to it at the other, is made anew at the first without what was set. That end asks the other
+one to tell it, by a line TELL, and is told it as a burst does. So each end has its server's room at any time, and the base behind what is due
+is that room at rest, which is looked at there.
 
     seldom      scripts by hand, each of what a rule is for: at rest as random scripts;
-    diamond     two ends do something each in one room, one effect or a list: behind what both did they have one room again, but for the
-                rows of channels that are told again;
+    diamond     two ends do something each in one room, one effect or a list: behind what both did they have one room again, once the
+                channels are told of which one asks the other;
     orders      each of five people, of whom two come, does things in turn at two or three servers in a line, or while two servers are linked,
                 and pieces are delivered one at a time: *every* order of both is walked, up to a bound of states;
+    lives       short random scripts of one channel that ends and begins all the time: at rest as of any scripts;
     scripts     random scripts on two to five servers in a tree, where people act on each other, pieces are delivered, and links cut and made at any
                 time: at rest the servers of a part have one room, and no link was closed but for a loop;
     seen        scripts, whose clients look at what they are shown: at rest what they know from that is what their server has, and nobody is shown
                 what is out of place;
     rest        scripts with everything delivered in between: what a server without the layer is given, and does something by, is byte for byte
-                what one with it is given, and people see the same;
+                what one with it is given, and people see the same. A link that is made can end that: where somebody is killed as the bursts
+                cross, what is set in a channel of that one is kept by servers with a layer;
     unchanged   any line that comes where the log is empty is given as it came, but for an NJOIN by which nobody comes and the spelling is
-                greater: a channel is told again.
+                greater: a channel is told.
 
 Of scripts and orders it says what was tried and what went wrong: servers that differ at rest, a link that is closed, an end that has
-another room than its server, at rest a base that is not that room behind the log. `--piece` is how many lines a piece has at most,
+another room than its server, at rest a base that is not that room behind what is due. `--piece` is how many lines a piece has at most,
 `--count-within` how many pieces are read before a count goes out alone; `--plain` is servers without the layer. `--without RULE` takes a
 rule out, and `--without each` each in turn. The status is 1 where something went wrong; with `--without each`, where some rule is not
 missed.
@@ -63,6 +65,7 @@ from servers import NAMES       # noqa: E402
 SCRIPTS = [(2, 80, 250, False, 0.0, 16), (2, 80, 100, True, 0.0, 1), (3, 80, 250, False, 0.06, 1), (3, 80, 60, True, 0.06, 2),
            (4, 80, 40, True, 0.06, 16), (5, 80, 150, False, 0.06, 1)]
 ORDERS = [(2, 4, 25, 800), (3, 3, 12, 400)]
+LIVES = [(2, 20, 1000, False, 0.0, 1), (3, 24, 400, False, 0.06, 1), (2, 20, 200, False, 0.0, 16)]
 SEEN = [(3, 80, 100, False, 0.06, 1), (2, 80, 60, True, 0.0, 16)]
 REST = [(3, 60, 80, False), (4, 60, 20, True)]
 
@@ -123,11 +126,15 @@ def try_seldom(given):
 
 
 def try_scripts(given):
-    return sum(scripts_tried(given, *each) for each in chosen_scripts(given, SCRIPTS))
+    return sum(scripts_tried(given, "scripts", scripts.script, *each) for each in chosen_scripts(given, SCRIPTS))
+
+
+def try_lives(given):
+    return sum(scripts_tried(given, "lives", scripts.lives, *each) for each in chosen_scripts(given, LIVES))
 
 
 def try_seen(given):
-    return sum(scripts_tried(given, *each, Watched) for each in chosen_scripts(given, SEEN))
+    return sum(scripts_tried(given, "seen", scripts.script, *each, Watched) for each in chosen_scripts(given, SEEN))
 
 
 def chosen_scripts(given, usual):
@@ -136,19 +143,15 @@ def chosen_scripts(given, usual):
     return [(given.servers, given.things or 80, given.tries or 300, given.calm, 0.06 if given.cuts else 0.0, MOST)]
 
 
-def scripts_tried(given, count, length, tries, calm, cuts, most, kind=Net):
+def scripts_tried(given, title, script, count, length, tries, calm, cuts, most, kind=Net):
     began, how = time.time(), settings(given, most) | {"kind": kind}
-    steps, loops, found = scripts.tried(given.seed, given.seed + tries, count, length, cuts, calm, how)
+    made = {number: script(random.Random(number), count, length, cuts, calm) for number in range(given.seed, given.seed + tries)}
+    steps, loops, found = scripts.tried(NAMES[:count], made, how)
     faults = [(number, reason) for number, reason in sorted(found.items())]
-    faults = [(*fault, *shortest(count, length, cuts, calm, how, fault[0])) for fault in faults[:given.show]] + faults[given.show:]
-    title = f"{'seen' if kind is Watched else 'scripts'} on {count} servers, {'calm' if calm else 'harsh'}{', links cut' if cuts else ''}"
+    faults = [(*fault, *scripts.shortened(NAMES[:count], made[fault[0]], how)) for fault in faults[:given.show]] + faults[given.show:]
+    title += f" on {count} servers, {'calm' if calm else 'harsh'}{', links cut' if cuts else ''}"
     title += f", pieces of {how['most']}: {tries} scripts, {steps} steps, {loops} loops"
     return told(title, faults, given, began)
-
-
-def shortest(count, length, cuts, calm, how, number):
-    acts = scripts.script(random.Random(number), count, length, cuts, calm)
-    return scripts.shortened(NAMES[:count], acts, how)
 
 
 def try_rest(given):
@@ -165,16 +168,16 @@ def try_unchanged(given):
 
 
 def rest_tried(given, count, length, tries, calm):
-    began, lines, faults = time.time(), 0, []
+    began, lines, short, faults = time.time(), 0, 0, []
     for number in range(given.seed, given.seed + tries):
-        more, fault = at_rest.same(number, count, length, calm)
-        lines += more
+        more, is_short, fault = at_rest.same(number, count, length, calm)
+        lines, short = lines + more, short + is_short
         faults += [fault] if fault else []
-    return told(f"at rest on {count} servers: {tries} scripts, {lines} lines", faults, given, began)
+    return told(f"at rest on {count} servers: {tries} scripts, {lines} lines, {short} cut short", faults, given, began)
 
 
-TRIES = {"seldom": try_seldom, "diamond": try_diamond, "orders": try_orders, "scripts": try_scripts, "seen": try_seen, "rest": try_rest,
-         "unchanged": try_unchanged}
+TRIES = {"seldom": try_seldom, "diamond": try_diamond, "orders": try_orders, "lives": try_lives, "scripts": try_scripts, "seen": try_seen,
+         "rest": try_rest, "unchanged": try_unchanged}
 
 
 def tried(given):

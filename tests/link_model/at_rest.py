@@ -1,5 +1,12 @@
 """Where nothing overlaps: servers with a layer are given the lines that servers without one are given, byte for byte, and people see the same;
-and where a log is empty, any line is given as it came, be it one that no server writes, but for an NJOIN that tells a greater spelling alone."""
+and where a log is empty, any line is given as it came, be it one that no server writes, but for an NJOIN that tells a greater spelling alone.
+
+Of a link that is made the bursts cross. Where somebody is killed by that, in whose channel are others at the other end, a server with a layer sets
+there what is set in it, by a deed, and one without does not. From then on the two may differ, and a script ends with that.
+
+    a.net writes    NICK al 1 u h 1 + :Al, :a.net NJOIN #c :@al, :a.net MODE #c +m
+    b.net writes    NICK al 1 u h 1 + :Al, :b.net NJOIN #c :bo
+"""
 
 import random
 
@@ -31,11 +38,11 @@ def done_by(net, act, conns, place):
 
 
 def same(number, count, length, calm):
-    """A script with everything at rest in between: how many lines were given, and the first difference or fault."""
+    """A script with everything at rest in between: how many lines were given, whether it ended with a deed, and the first difference or fault."""
     try:
         return compared(number, count, length, calm)
     except FAULTS as fault:
-        return 0, (number, repr(fault))
+        return 0, False, (number, repr(fault))
 
 
 def compared(number, count, length, calm):
@@ -48,20 +55,22 @@ def compared(number, count, length, calm):
         for net, own in zip(nets, conns, strict=True):
             done_by(net, act, own, place)
             settled(net, place % 2)
+        if any(does and not isinstance(item, Line) for layer in nets[1].layers.values() for does, _, item in layer.noted):
+            return lines, True, None
         for name in NAMES[:count]:
             noted = [net.layers[name].noted for net in nets]
             lines += len(noted[1])
             if doing(noted[0]) != doing(noted[1]):
-                return lines, (number, act, name, noted)
+                return lines, False, (number, act, name, noted)
             for net in nets:
                 net.layers[name].noted = []
         if nets[0].shown != nets[1].shown:
-            return lines, (number, act, nets[0].shown[-3:], nets[1].shown[-3:])
-    return lines, None
+            return lines, False, (number, act, nets[0].shown[-3:], nets[1].shown[-3:])
+    return lines, False, None
 
 
 def doing(noted):
-    return [(link, text) for does, link, text in noted if does]
+    return [(link, item) for does, link, item in noted if does]
 
 
 def any_line(chance):

@@ -1,33 +1,38 @@
 """What an effect becomes that crossed others: the rules by which two ends of a link agree.
 
-Two ends have the same room; each does something, and then reads what the other did. `crossed(room, theirs, ours)` is what becomes of their
-effect behind ours, so that both rooms are the same again: behind ours and what becomes of theirs, and behind theirs and what becomes of
-ours. Both were made in the same room, and what is a user's own to do comes from one side: no two NICK of one user cross, and no two JOIN of
-one user to one channel. Of one effect one is left, or nothing. Of the room there is read what a place has, and who is in a channel that
-somebody leaves.
+Two ends have the same room; each does something, and then reads what the other did. `crossed(theirs, ours)` is what becomes of their effect
+behind ours, so that both rooms are the same again: behind ours and what becomes of theirs, and behind theirs and what becomes of ours. Both
+were made in the same room, and what is a user's own to do comes from one side: no two NICK of one user cross, and no two JOIN of one user to
+one channel. Of one effect one is left, or nothing. Nothing is read of the room.
 
 One thing the rules leave different, the row of a channel that ends at one end and not at the other. At the first, who comes makes it anew,
-without what was set; at the second it is as it was, and that end tells it again (ends.py). So no end keeps a row of what has ended, nor has
-to know it before the event by which it ends.
+without what was set; at the second it is as it was, and the first asks for that (ends.py). What the second set in the old life of the channel
+is nothing in the new one: by the Made that stands between the two it is known of which life something is.
 
 The examples are of the end a.net, whose people are al and ann; bo and bea are at b.net.
 """
 
 from dataclasses import replace
 
-from effects import (NOTHING, SPELLING, Come, Go, Join, Member, Named, Out, Own, Rename, Set, Spoken, channel_of, done, is_flag, rank,
+from effects import (NOTHING, SPELLING, Come, Go, Join, Joined, Made, Named, Out, Own, Rename, Set, Spoken, channel_of, is_flag, rank,
                      taken_by, with_names)
 
 
-def crossed(room, theirs, ours):
+def crossed(theirs, ours):
     """What becomes of an effect of the other end behind one of ours."""
     if two_to_one_name(theirs, ours):
         return both_go(theirs)
     if isinstance(ours, Rename):
         return name_followed(theirs, ours)
     if isinstance(ours, (Go, Out)):
-        return in_ended_channel(room, gone_dropped(theirs, ours), ours)
-    if isinstance(ours, (Join, Set)) and isinstance(theirs, (Join, Set)) and theirs.channel == ours.channel:
+        return gone_dropped(theirs, ours)
+    if channel_of(ours) is None or channel_of(ours) != channel_of(theirs):
+        return theirs
+    if is_of_old_life(theirs, ours):
+        return NOTHING
+    if is_one_life(theirs, ours):
+        return one_life(theirs)
+    if isinstance(ours, (Join, Set)) and isinstance(theirs, (Join, Set)):
         return replace(theirs, values=tuple((place, value) for place, value in theirs.values if stays(theirs, ours, place)))
     return theirs
 
@@ -68,7 +73,7 @@ def gone_dropped(theirs, ours):
     match theirs:
         case Rename(nick, _, _) | Own(nick, _) | Named(nick):
             return NOTHING if is_out(ours, nick, None) else theirs
-        case Out(nick, channel) | Member(nick, channel, _):
+        case Out(nick, channel):
             return NOTHING if is_out(ours, nick, channel) else theirs
         case Go(nicks):
             return Go(frozenset(nick for nick in nicks if not is_out(ours, nick, None)))
@@ -85,23 +90,28 @@ def is_out(ours, nick, channel):
     return nick in ours.nicks if isinstance(ours, Go) else (nick, channel) == (ours.nick, ours.channel)
 
 
-def in_ended_channel(room, theirs, ours):
-    """Where the channel has ended here, who comes makes it anew, without what was set; what else is for it is for nobody.
+def is_of_old_life(theirs, ours):
+    """Whether ours makes the channel anew in which theirs was set, or for which it is. Who comes to it is in the new one.
 
-        a.net writes    :al PART #c :bye        b.net writes    :bo JOIN #c, :bo TOPIC #c :hello
-        a.net is given  :b.net NJOIN #c :bo, :bo TOPIC #c :hello
-
-        a.net writes    :al PART #c :bye        b.net writes    :b.net MODE #c +k x
+        a.net writes    :al PART #c :bye, :ann JOIN #c\\7o        b.net writes    :bo MODE #c +k x, :bo PRIVMSG #c :hello
         a.net is given  nothing
     """
-    if not isinstance(theirs, (Join, Set, Spoken)) or isinstance(theirs, Join) and theirs.members:
-        return theirs
-    return theirs if theirs.channel in room.channels and not ends(room, ours, theirs.channel) else NOTHING
+    return isinstance(ours, Made) and (isinstance(theirs, (Set, Spoken)) or isinstance(theirs, Join) and not theirs.members)
 
 
-def ends(room, ours, channel):
-    """Whether a channel is there, and is not behind ours."""
-    return channel in room.channels and channel not in done(room, ours).channels
+def is_one_life(theirs, ours):
+    """Whether theirs makes a channel that ours makes too, or to which somebody comes by ours. It is one from then on, as often as it began here
+    meanwhile: what is set in it behind that is given.
+
+        a.net writes    :al JOIN #c\\7o, :al PART #c :bye, :al JOIN #c\\7o       b.net writes    :bo JOIN #c\\7o, :bo MODE #c -o bo
+        a.net is given  :b.net NJOIN #c :@bo, :bo MODE #c -o bo
+    """
+    return isinstance(theirs, Made) and isinstance(ours, (Made, Joined))
+
+
+def one_life(theirs):
+    """Somebody comes to a channel that is there."""
+    return Joined(theirs.channel)
 
 
 def stays(theirs, ours, place):
@@ -119,14 +129,23 @@ def is_greater(value, other):
     return rank(value) > rank(other)
 
 
-def through(base, theirs, log):
-    """An effect of the other end, made in the room that it had of us: what it is here behind a log of ours, and the log behind it. The log
-    has what we did since, each with the number of its piece."""
-    room, behind = base, []
+def through(theirs, log):
+    """What an effect of the other end is here behind a log of ours, and the log behind it. The log has what we did since, each with the number of
+    its piece."""
+    behind = []
     for number, ours in log:
-        behind.append((number, crossed(room, ours, theirs)))
-        theirs, room = crossed(room, theirs, ours), done(room, ours)
+        behind.append((number, crossed(ours, theirs)))
+        theirs = crossed(theirs, ours)
     return theirs, tuple((number, ours) for number, ours in behind if does_something(ours))
+
+
+def all_through(effects, log):
+    """The same of effects in turn."""
+    became = []
+    for theirs in effects:
+        left, log = through(theirs, log)
+        became.append(left)
+    return became, log
 
 
 def related(theirs, log):

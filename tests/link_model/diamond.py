@@ -1,11 +1,10 @@
-"""The diamond: two ends did something each in one room; behind what both did they have one room again, but for the rows of channels that ended
-on one of the two ways, or were made there by somebody else: those are told again (ends.py). Tried of pairs of effects and of lists."""
+"""The diamond: two ends did something each in one room; behind what both did they have one room again, but for the rows of channels of which one
+asks the other: those are the same once they are told (ends.py). Tried of pairs of effects and of lists."""
 
-import collections
-
-from crossing import crossed, related, through
-from effects import (EMPTY, HIDDEN, KEY, LIMIT, NOTHING, OPERATOR, SPELLING, TOPIC, VOICE, Come, Go, Join, Named, Out, Own, Person,
-                     Rename, Room, Set, Spoken, all_done, ban, done, flag, in_order, rank, value_at)
+from crossing import related, through
+from effects import (EMPTY, HIDDEN, KEY, LIMIT, NO_CHANNEL, OPERATOR, SPELLING, TOPIC, VOICE, Come, Go, Join, Joined, Made, Named, Out,
+                     Own, Person, Rename, Set, Spoken, all_done, ban, done, flag, in_order, raised, rank, value_at, with_channel)
+from ends import may_lack
 from lost import lost, taken_back
 
 SIDES = [b"a.net", b"b.net"]
@@ -59,7 +58,7 @@ def members(room, name):
 
 
 def is_possible(room, effect):
-    """Whether an effect finds whom and what it names, so that a server can do it."""
+    """Whether an effect finds whom and what it names, so that a server can do it. What is set in a channel that is not there is nothing."""
     match effect:
         case Come(nick, _):
             return nick not in room.people
@@ -69,15 +68,14 @@ def is_possible(room, effect):
             return all(nick in room.people for nick in nicks)
         case Own(nick, _) | Named(nick):
             return nick in room.people
-        case Join(channel, comers, values):
-            return all(nick in room.people and nick not in members(room, channel) for nick, _ in comers) and bool(
-                comers or not values or channel in room.channels)
+        case Join(channel, comers, _):
+            return all(nick in room.people and nick not in members(room, channel) for nick, _ in comers)
         case Out(nick, channel):
             return nick in members(room, channel)
         case Set(channel, values):
-            return channel in room.channels and all(place[1] in members(room, channel) for place, _ in values if place[0] in "ov")
+            return channel not in room.channels or all(place[1] in members(room, channel) for place, _ in values if place[0] in "ov")
         case _:
-            return effect == NOTHING or effect.channel in room.channels
+            return True
 
 
 def all_possible(room, effects):
@@ -88,53 +86,72 @@ def all_possible(room, effects):
     return True
 
 
-def crossed_all(room, theirs, ours):
-    """Lists of both ends: theirs behind ours, and ours behind theirs."""
-    log, behind = tuple(enumerate(ours)), []
-    for effect in theirs:
-        left, log = through(room, effect, log)
+def logged(room, effects):
+    """What stands in a log of effects: beside who comes to a channel, whether it begins."""
+    log = []
+    for effect in effects:
+        log.append(effect)
+        if comes(effect):
+            log.append(Joined(effect.channel) if effect.channel in room.channels else Made(effect.channel))
         room = done(room, effect)
-        behind.append(left)
-    return behind, [effect for _, effect in log]
+    return tuple(enumerate(log))
+
+
+def comes(effect):
+    return isinstance(effect, Join) and bool(effect.members)
+
+
+def read(room, effects):
+    """What the other end reads of that: of who comes to a channel as no operator, it does not see that the channel begins."""
+    entries = [effect for _, effect in logged(room, effects)]
+    return [Joined(effect.channel) if isinstance(effect, Made) and not is_by_operator(before) else effect
+            for before, effect in zip([None, *entries], entries, strict=False)]
+
+
+def is_by_operator(join):
+    return any(OPERATOR in flags for _, flags in join.members)
+
+
+def met(room, theirs, ours):
+    """What becomes of theirs behind ours, and of which channels the end asks by it."""
+    here, log, became, asked = all_done(room, ours), logged(room, ours), [], set()
+    for effect in read(room, theirs):
+        if comes(effect) and may_lack(here, log, effect.channel, False):
+            asked.add(effect.channel)
+        left, log = through(effect, log)
+        here = done(here, left)
+        became.append(left)
+    return became, asked
 
 
 def needs_what_is_related(room, theirs, ours):
     """Whether the same becomes of each effect behind the part of the log that is related to it."""
-    log = tuple(enumerate(ours))
-    for effect in theirs:
-        left, behind = through(room, effect, log)
-        if through(room, effect, related(effect, log))[0] != left:
+    log = logged(room, ours)
+    for effect in read(room, theirs):
+        left, behind = through(effect, log)
+        if through(effect, related(effect, log))[0] != left:
             return False
-        log, room = behind, done(room, effect)
+        log = behind
     return True
 
 
-def meet(room, theirs, ours, theirs_behind, ours_behind):
-    """Whether both ways come to one room, but for rows that are told again, by effects that are possible there."""
+def meet(room, theirs, ours):
+    """Whether both ways come to one room, behind what is told of the channels that are asked for, by effects that are possible there."""
+    (theirs_behind, asked), (ours_behind, asked_there) = met(room, theirs, ours), met(room, ours, theirs)
     one, other = all_done(room, ours), all_done(room, theirs)
-    names = ended_by(room, [*ours, *theirs_behind]) | ended_by(room, [*theirs, *ours_behind])
-    names |= set(comers(theirs) - comers(theirs_behind)) | set(comers(ours) - comers(ours_behind))
-    return (all_possible(one, theirs_behind) and all_possible(other, ours_behind)
-            and but_rows(all_done(one, theirs_behind), names) == but_rows(all_done(other, ours_behind), names))
+    if not all_possible(one, theirs_behind) or not all_possible(other, ours_behind):
+        return False
+    one, other = all_done(one, theirs_behind), all_done(other, ours_behind)
+    return told_of(one, other, asked) == told_of(other, one, asked_there)
 
 
-def ended_by(room, effects):
-    """The channels that end by effects, be they made anew or not."""
-    ended = set()
-    for effect in effects:
-        behind = done(room, effect)
-        ended, room = ended | (set(room.channels) - set(behind.channels)), behind
-    return ended
-
-
-def comers(effects):
-    """How many come to each channel."""
-    return collections.Counter(effect.channel for effect in effects if isinstance(effect, Join) for _ in effect.members)
-
-
-def but_rows(room, names):
-    """A room without the rows of some channels."""
-    return Room(room.people, {name: channel._replace(row={}) if name in names else channel for name, channel in room.channels.items()})
+def told_of(room, other, names):
+    """A room behind what another one tells of channels."""
+    for name in names & set(room.channels):
+        there = room.channels[name]
+        row = raised(there.row, other.channels.get(name, NO_CHANNEL).row.items())
+        room = with_channel(room, name, there._replace(row=row))
+    return room
 
 
 def some_room(chance):
@@ -171,11 +188,11 @@ def tried(chance, rooms, lists):
         for one in theirs:
             for other in ours:
                 pairs += 1
-                if not meet(room, [one], [other], [crossed(room, one, other)], [crossed(room, other, one)]):
+                if not meet(room, [one], [other]):
                     faults.append((room.key(), one, other))
         for _ in range(lists):
             pairs_of_lists += 1
             one, other = (some_doing(chance, room, side, chance.randrange(1, 8), 0.3) for side in reversed(SIDES))
-            if not meet(room, one, other, *crossed_all(room, one, other)) or not needs_what_is_related(room, one, other):
+            if not meet(room, one, other) or not needs_what_is_related(room, one, other):
                 faults.append((room.key(), one, other))
     return pairs, pairs_of_lists, faults

@@ -139,12 +139,17 @@ class Spoken:
 
 
 @dataclass(frozen=True, slots=True)
-class Member:
-    """Somebody was told to come to a channel: in a log, behind the Join. It does nothing. :al JOIN #c, :a.net NJOIN #c :@al"""
+class Made:
+    """A channel begins by who comes to it: in a log, behind the Join. It does nothing. :al JOIN #c\\7o"""
 
-    nick: bytes
     channel: bytes
-    is_told: bool           # what is set there was told behind it, and the other end has joined or set nothing since
+
+
+@dataclass(frozen=True, slots=True)
+class Joined:
+    """Somebody comes to a channel that is there: likewise. :al JOIN #c, :a.net NJOIN #c :@al"""
+
+    channel: bytes
 
 
 @dataclass(frozen=True, slots=True)
@@ -289,7 +294,7 @@ def all_done(room, effects):
 
 def channel_of(effect):
     """Of which channel an effect is, or None."""
-    return effect.channel if isinstance(effect, (Join, Out, Set, Spoken, Member)) else None
+    return effect.channel if isinstance(effect, (Join, Out, Set, Spoken, Made, Joined)) else None
 
 
 def taken_by(effect):
@@ -302,7 +307,7 @@ def taken_by(effect):
 def with_names(effect, name):
     """An effect whose people have other nicknames: `name` says which."""
     match effect:
-        case Rename(nick, _, _) | Out(nick, _) | Own(nick, _) | Named(nick) | Member(nick, _, _):
+        case Rename(nick, _, _) | Out(nick, _) | Own(nick, _) | Named(nick):
             return replace(effect, nick=name(nick))
         case Go(nicks):
             return Go(frozenset(map(name, nicks)))

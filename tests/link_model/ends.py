@@ -13,45 +13,50 @@ A piece without lines tells the count alone, and is not counted itself.
                     :zed JOIN #c
                     :zed PRIVMSG #c :hello      a piece of its own
 
-A channel may end at the other end while somebody comes to it here. There who came has made it anew, without what was set; here it was never
-without members. So this end tells it again, as a burst does, and the other end takes the greater of what it has and what it is told:
+A channel may end here while somebody comes to it at the other end. Here who comes makes it anew, without what was set; there it was never
+without members. So this end asks, by a line of the layer that is a piece of its own, and the other end tells the channel as a burst does:
 
-    b.net writes    :bo JOIN #c                 where al of a.net is, and a key is set
-    a.net writes    :al PART #c :bye            has ended it, and makes it anew as it reads the JOIN, without the key
-    b.net writes    :b.net NJOIN #c :bo, :b.net MODE #c +nk x           behind :al PART #c :bye
+    a.net writes    :al PART #c :bye            by which #c ends
+    b.net writes    :bo JOIN #c                 and reads the PART: #c is there, with a key
+    a.net writes    TELL #c                     behind the JOIN, by which it has #c without the key
+    b.net writes    :b.net NJOIN #c :bo, :b.net MODE #c +nk x
 
-When it does so it has to know by its log, for the other end keeps nothing of what has ended:
+What is told raises: each place has the greater of what it has and what is told. It is what is set as the TELL is read. By then it may be that all
+members at the other end are behind the link; it is told then as by a server that sets, for where no member is behind a link nothing is raised.
 
-- Each member of a JOIN or NJOIN that is put out is an entry of the log, a Member, behind the Join. That of a JOIN that makes an operator
-  too: it made the channel here, but at the other end the channel may have been there, and have ended.
+    b.net writes    :bo PART #c :bye, and reads :ann JOIN #c, TELL #c
+    b.net writes    COUNT 17 1 set
+                    :b.net MODE #c +nk x
 
-    b.net writes    :bo JOIN #c\\7o              and reads :al JOIN #c\\7o, :al MODE #c +k x, :al PART #c :bye
-                                                a.net has #c without the key
+- Whether this end asks is known as a JOIN or NJOIN comes, by its log and its room; it asks behind what its server puts out upon the line. Where
+  the channel is here, and was not made here behind what the other end had read, both have one life of it. Else it may have ended here, if the
+  log tells of it; or if somebody is gone in the log, for what channels those were in it does not tell.
 
-- An entry is told once what is set in its channel was told behind it. Those of a burst begin as told, for what is set comes behind them.
-  They are told no more once the other end joins or sets something of the channel: that was not in what was told.
-- Which channels are looked at: behind a line that takes somebody out at the other end, those that it takes them out of there, and those to
-  which they have come by the log, for there they never come; behind a line by which two go who took one name, all, for the other end does
-  not write who goes. No channel ends there by another line.
-- Whether one may have ended: its members are counted as they are here, and the log is walked from its end to its front. In front of an Out
-  there was one member more, in front of an entry one less. Where none was in front of an entry that is not told, the other end may have had
-  none as it read of it. Who is gone altogether is not counted, so that a channel may be told again that had not ended: by that at most
-  something stays set, at both ends, that the other end takes off at that moment.
-- It is looked behind each line, for who comes by the next line of the piece made the channel anew. It is told behind the whole piece, with
-  the row as it is then: what is put out carries a count, and the other end takes it as written behind all of its piece.
+    a.net writes    :a.net KILL al, and reads :bo JOIN #c       al may have been in #c
+    a.net writes    :al PART #c :bye, :ann JOIN #c\\7o          and reads :bo JOIN #c: here #c is without the key too
+
+- A server brings members itself only as the link begins, when it has read nothing yet, or as it tells what was asked. What is set in a channel
+  that both had is then told by both, so that of somebody who is gone none is asked.
+
+    a.net writes    :a.net NJOIN #c :al, :a.net MODE #c +k x, :al QUIT :bye
+    b.net writes    :b.net NJOIN #c :bo                         and reads of the key
+
+- In the log beside each JOIN or NJOIN that is put out stands whether the channel begins by it, Made, or was there, Joined. It begins by a JOIN
+  that makes an operator, and by any that is passed on from another link if it was not there before.
+
+    b.net writes    :b.net NJOIN #c :bo         which came as :bo JOIN #c from c.net, where #c is, and by which it begins at b.net
 """
 
-import collections
-from dataclasses import replace
 from typing import NamedTuple
 
-from crossing import does_something, through
-from effects import EMPTY, Go, Join, Member, Out, Room, Set, all_done, done
-from lines import Reader, asked, channel_lines, tale
-from servers import parse
+from crossing import all_through, does_something
+from effects import EMPTY, Go, Join, Joined, Made, Out, Room, Set, all_done
+from lines import MARK, Reader, asked, tale
+from servers import fold, parse
 
 MOST = 16                   # lines of a piece
 SET = b"set"
+TELL = b"TELL"
 
 
 class Piece(NamedTuple):
@@ -65,31 +70,40 @@ class End(NamedTuple):
     """What one end of a link keeps of it."""
 
     base: Room              # the room that the other end had when it wrote what came last
-    log: tuple              # what was put out and not counted as read: numbers of pieces, and effects
-    here: Room              # the server's own room: the base behind the log
+    log: tuple              # what was put out and not counted as read: numbers of pieces, and effects; by it is judged what comes
+    due: tuple              # the same, as the other end will have it done; from it the base is made
+    here: Room              # the server's own room: at rest the base behind what is due
     out: tuple              # pieces of this event
     sent: int               # pieces put out
     told: int               # the count that was put out last
     read: int               # pieces of the other end that were read
     heard: int              # the count that came last
     greeted: bool           # the other end has named itself: from here on there are pieces
-    again: frozenset        # channels that are told again behind the piece that is read
 
 
-NEW = End(EMPTY, (), EMPTY, (), 0, 0, 0, 0, False, frozenset())
+NEW = End(EMPTY, (), (), EMPTY, (), 0, 0, 0, 0, False)
 
 
 def with_line(end, line, effects, is_set, most):
     """An end that puts out one line more, as part of the last piece or of a new one."""
-    last = end.out[-1] if end.out else None
-    is_full = last is not None and len(last.lines) >= most and not goes_on(last.lines[-1], line)
-    if last is None or is_set or last.is_set or is_full:
-        out = (*end.out, Piece((line,), is_set))
+    if end.out and goes_with(end.out[-1], line, is_set, most):
+        out = (*end.out[:-1], Piece((*end.out[-1].lines, line), False))
     else:
-        out = (*end.out[:-1], Piece((*last.lines, line), False))
+        out = (*end.out, Piece((line,), is_set))
     kept = [effect for effect in effects if does_something(effect)]
-    log = (*end.log, *((end.sent + len(out), effect) for effect in kept))
-    return end._replace(out=out, log=log, here=all_done(end.here, kept))
+    more = tuple((end.sent + len(out), effect) for effect in kept)
+    return end._replace(out=out, log=end.log + more, due=end.due + more, here=all_done(end.here, kept))
+
+
+def goes_with(last, line, is_set, most):
+    """Whether a line is part of the piece before it. A TELL is a piece of its own, so that it is read behind all of what its end had done."""
+    if is_set or last.is_set or is_alone(line) or is_alone(last.lines[-1]):
+        return False
+    return len(last.lines) < most or goes_on(last.lines[-1], line)
+
+
+def is_alone(line):
+    return channel_told(line) is not None
 
 
 def goes_on(before, line):
@@ -104,10 +118,9 @@ def goes_on(before, line):
 
 def counted(end, count):
     """An end whose other end has read so many pieces: what they did it has done."""
-    base, log = end.base, end.log
-    while log and log[0][0] <= count:
-        base, log = done(base, log[0][1]), log[1:]
-    return end._replace(base=base, log=log, heard=count)
+    base = all_done(end.base, [effect for number, effect in end.due if number <= count])
+    log, due = (tuple(entry for entry in entries if entry[0] > count) for entries in (end.log, end.due))
+    return end._replace(base=base, log=log, due=due, heard=count)
 
 
 def flushed(end):
@@ -136,18 +149,15 @@ def piece_read(lines, heard):
 
 
 def meant(end, side, line, is_set):
-    """What the server is asked for upon a line that came, the end behind it, and the channels that are looked at. `side` is what the server
-    knows of the link."""
+    """What the server is asked for upon a line that came, the end behind it, and the channel that the other end is asked to tell, or None.
+    `side` is what the server knows of the link."""
     writer, reader = Reader(end.base, side), Reader(end.here, side)
     told = tale(line, writer, is_set)
-    base, log, became = end.base, end.log, []
-    for effect in told.effects:
-        left, log = through(base, effect, log)
-        base = done(base, effect)
-        became.append(left)
-    behind = end._replace(base=base, log=untold(log, told.effects), here=all_done(end.here, became))
-    names = came_to(log) if collides(told.effects, became) else taken_out(end.base, told.effects) | never_come_to(end.log, log)
-    return asked(writer, reader, told, became), behind, names
+    became, log = all_through([*told.effects, *entries(told, False)], end.log)
+    _, due = all_through([*told.effects, *entries(told, is_new(end.base, told))], end.due)
+    became = became[:len(told.effects)]
+    behind = end._replace(base=all_done(end.base, told.effects), log=log, due=due, here=all_done(end.here, became))
+    return asked(writer, reader, told, became), behind, channel_asked(end, side, told)
 
 
 def is_echo(link, arrival, command):
@@ -159,92 +169,80 @@ def is_echo(link, arrival, command):
     return link == arrival and command == b"KILL"
 
 
-# Channels that are told again.
+# Channels of which the other end is asked.
 
 
-def entries(told, is_told):
-    """The entries of those who come by a line that is put out."""
-    return [Member(nick, effect.channel, is_told) for effect in told.effects if isinstance(effect, Join) for nick, _ in effect.members]
+def comes_to(told):
+    """The name of the channel to which somebody comes by a JOIN or NJOIN, or None."""
+    comes = told.command in (b"JOIN", b"NJOIN") and any(isinstance(effect, Join) and effect.members for effect in told.effects)
+    return told.words[0].removesuffix(MARK) if comes else None
 
 
-def came_to(log):
-    """The channels of the entries of a log."""
-    return frozenset(entry.channel for _, entry in log if isinstance(entry, Member))
+def is_new(room, told):
+    """Whether somebody comes by a line to a channel that is not there."""
+    return comes_to(told) is not None and fold(comes_to(told)) not in room.channels
 
 
-def untold(log, effects):
-    """A log behind effects of the other end: in a channel that they join or set, entries are told no more.
+def entries(told, begins):
+    """What stands in a log beside who comes by a line. `begins` is whether the channel was not there before. Of a line that comes that is not
+    told, and no program has a base to see it by: it is judged by its mark.
 
-        b.net writes    :bo JOIN #c, and tells #c again
-        a.net writes    :ann JOIN #c, :ann MODE #c +k x, :ann PART #c :bye         and had read nothing of that
+        a.net writes    :al MODE #c +k x
+        b.net writes    :bea KICK #c al :out, :bea PART #c :bye, and :cy JOIN #c, which came from c.net, and by which #c begins
+        b.net does      nothing upon the MODE, and a.net has it in its log still
     """
-    return with_told(log, {effect.channel for effect in effects if isinstance(effect, (Join, Set))}, False)
+    name = comes_to(told)
+    if name is None:
+        return []
+    return [Made(fold(name)) if begins or is_marked(told) else Joined(fold(name))]
 
 
-def with_told(log, names, is_told):
-    """A log whose entries of some channels are told, or are not."""
-    return tuple((number, replace(entry, is_told=is_told) if isinstance(entry, Member) and entry.channel in names else entry)
-                 for number, entry in log)
+def is_marked(told):
+    return told.command == b"JOIN" and told.words[0].endswith(MARK)
 
 
-def collides(effects, became):
-    """Whether somebody goes by a line that takes nobody out.
+def channel_asked(end, side, told):
+    """The channel of which the other end is asked upon a line, before that is given, or None."""
+    name = comes_to(told)
+    return name if name is not None and may_lack(end.here, end.log, fold(name), told.prefix == side.peer) else None
 
-        a.net writes    :al NICK zed            b.net writes    :bo NICK zed, :bea JOIN #c
-        b.net is given  :al NICK zed            which takes both out of #c at a.net
+
+def may_lack(room, log, name, is_own):
+    """Whether what is set in a channel at the other end may not be set here, as somebody comes to it. `is_own` is whether the server there tells
+    so of itself."""
+    if name in room.channels and not was_made(log, name):
+        return False
+    return is_told_of(log, name) or not is_own and is_somebody_gone(log)
+
+
+def was_made(log, name):
+    """Whether a channel was made here, and the other end had not read that.
+
+        a.net writes    :al PART #c :bye, :ann JOIN #c\\7o       b.net writes    :bo JOIN #c
     """
-    return not any(map(is_way_out, effects)) and any(map(is_way_out, became))
+    return any(entry == Made(name) for _, entry in log)
 
 
-def is_way_out(effect):
-    return isinstance(effect, (Go, Out))
+def is_told_of(log, name):
+    """Whether a log tells of a channel.
 
-
-def taken_out(room, effects):
-    """The channels out of which effects take somebody in a room."""
-    out = {effect.channel for effect in effects if isinstance(effect, Out)}
-    gone = {nick for effect in effects if isinstance(effect, Go) for nick in effect.nicks}
-    return frozenset(out | {name for name, channel in room.channels.items() if gone & set(channel.members)})
-
-
-def never_come_to(log, behind):
-    """The channels of entries that a log has no more behind a line.
-
-        b.net writes    :bo JOIN #c\\7o, :bo TOPIC #c :hello, :bea JOIN #c
-        a.net writes    :a.net KILL bo              by it bea makes #c, and no topic is set
+        a.net writes    :al PART #c :bye                        b.net writes    :bo JOIN #c
     """
-    before, left = (collections.Counter(entry.channel for _, entry in each if isinstance(entry, Member)) for each in (log, behind))
-    return frozenset(before - left)
+    return any(isinstance(entry, (Made, Joined, Join, Out, Set)) and entry.channel == name for _, entry in log)
 
 
-def looked(end, names):
-    """An end that has looked at channels: which of them are told again behind the piece."""
-    there = names & came_to(end.log) & set(end.here.channels)
-    return end._replace(again=end.again | {name for name in there if may_have_ended(end, name)})
+def is_somebody_gone(log):
+    """Whether somebody is gone in a log, be it from that channel or not.
 
-
-def may_have_ended(end, name):
-    """Whether the other end may have had no member of a channel as it read that somebody came who has not been told what is set.
-
-        b.net's log     bo joins #c, bo is out of #c, bea joins #c, and in #c is bea: none in front of her, so it may have ended
-        b.net's log     the same, and in #c are bea and al: one in front of bea, two in front of bo's going, one in front of bo
+        a.net writes    :al QUIT :bye                           b.net writes    :bo JOIN #c
     """
-    count = len(end.here.channels[name].members)
-    for _, entry in reversed(end.log):
-        if isinstance(entry, Out) and entry.channel == name:
-            count += 1
-        elif isinstance(entry, Member) and entry.channel == name:
-            count = max(count - 1, 0)
-            if count == 0 and not entry.is_told:
-                return True
-    return False
+    return any(isinstance(entry, Go) for _, entry in log)
 
 
-def told_again(end, side, own, most):
-    """An end that has told again what it had found, as `own` tells it, but for what has ended since or has no entry left."""
-    for name in sorted(end.again & came_to(end.log) & set(end.here.channels)):
-        lines = channel_lines(Reader(end.here, side), own.peer, name)
-        for line in lines:
-            end = with_line(end, line, tale(line, Reader(end.here, own), False).effects, False, most)
-        end = end._replace(log=with_told(end.log, {name} if lines else (), True))
-    return end._replace(again=frozenset())
+def channel_told(line):
+    """The channel that the other end is to tell of by a line, or None.
+
+        a.net writes    TELL #c         b.net writes    :b.net NJOIN #c :bo, :b.net TOPIC #c :hello
+    """
+    _, command, words = parse(line)
+    return fold(words[0]) if command == TELL else None

@@ -8,7 +8,7 @@ where no line of its form does it, a line or a deed by the server at the other e
 from dataclasses import dataclass
 from typing import NamedTuple
 
-from effects import (HIDDEN, KEY, LIMIT, NO_CHANNEL, NOTHING, OPERATOR, SPELLING, TOPIC, VOICE, Come, Go, Join, Named, Out, Own, Person,
+from effects import (HIDDEN, KEY, LIMIT, NOTHING, OPERATOR, SPELLING, TOPIC, VOICE, Come, Go, Join, Named, Out, Own, Person,
                      Rename, Room, Set, Spoken, ban, flag, in_order, rank, value_at)
 from servers import Change, changes_of, changes_written, fold, is_server, parse, written
 
@@ -89,6 +89,11 @@ class Reader(NamedTuple):
     def is_far(self, nick):
         """Whether somebody behind the link has a nickname."""
         return nick in self.room.people and self.room.people[nick].home in self.side.homes.values()
+
+    def has_near(self, channel):
+        """Whether a channel has a member that is not behind the link."""
+        there = self.room.channels.get(channel)
+        return there is not None and not all(map(self.is_far, there.members))
 
     def has_far(self, channel):
         """Whether a channel has a member behind the link."""
@@ -390,12 +395,14 @@ def joins_plainly(writer, reader, join):
 
 def spells_alone(reader, join):
     """Whether nobody comes by an NJOIN, and its spelling is the greater one: a server takes it with somebody who comes, and so else it is a
-    deed. That is where a channel is told again.
+    deed. That is where a channel is told.
 
-        b.net has       #C, which bo has made anew with :bo JOIN #C; b.net was told
+        b.net has       #C, which bo has made anew with :bo JOIN #C\\7o, and writes TELL #c upon :al JOIN #c
         a.net writes    :a.net NJOIN #c :al, :a.net MODE #c +n
     """
-    there = reader.room.channels.get(join.channel, NO_CHANNEL).members
+    if join.channel not in reader.room.channels:
+        return False
+    there = reader.room.channels[join.channel].members
     return reader.raises(join.channel, SPELLING, dict(join.values)[SPELLING]) and all(nick in there for nick, _ in join.members)
 
 
@@ -429,12 +436,12 @@ ASKED = {Come: come_asked, Rename: rename_asked, Go: go_asked, Own: own_asked, O
 
 
 def channel_lines(teller, server, channel):
-    """A channel as a burst tells it, but for members behind the link; no lines if there are no others."""
+    """A channel as a burst tells it, but for members behind the link. If there are no others, an NJOIN of nobody tells the spelling."""
+    if channel not in teller.room.channels:
+        return []
     there = teller.room.channels[channel]
     name, near = there.row[SPELLING], [each for each in sorted(there.members.items()) if not teller.is_far(each[0])]
-    if not near:
-        return []
-    lines = [njoin(teller.room, server, name, group) for group in groups(near, MEMBERS)]
+    lines = [njoin(teller.room, server, name, group) for group in groups(near, MEMBERS) or [[]]]
     lines += [written(server, b"MODE", [name, *changes_written(changes)]) for changes in row_changes(there.row)]
     return lines + ([written(server, b"TOPIC", [name], there.row[TOPIC])] if TOPIC in there.row else [])
 

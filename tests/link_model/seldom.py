@@ -1,8 +1,11 @@
-"""Scripts that chance finds seldom, each of what a rule is for: how many servers, how many lines a piece has at most, and what happens."""
+"""Scripts that chance finds seldom, each of what a rule is for: how many servers, how many lines a piece has at most, and what happens. Of some
+it is said what a channel has at rest, where servers would not differ without the rule."""
 
+from effects import KEY, value_at
 from ends import MOST
-from scripts import fault_of
-from servers import NAMES
+from net import Fault
+from scripts import FAULTS, played
+from servers import NAMES, room_of
 
 
 def act(told):
@@ -53,6 +56,28 @@ SELDOM = {
     "who is alone has come back": (2, 1, [
         "link a.net b.net", "settle", "b.net n1", "a.net n2", "settle", "0 JOIN #c", "settle", "0 PART #c", "0 JOIN #C", "1 JOIN #c",
         "1 PART #c"]),
+    # a.net asks, and b.net is asked when n2 has left: in #c is n3 alone, who has come at a.net
+    "who came has left as the channel is told": (2, 1, [
+        *TWO, "a.net n3", "settle", *TOPIC, "1 JOIN #c", "0 PART #c", "2 JOIN #c", "deliver 1", "deliver 0", "deliver 0", "1 PART #c"]),
+    # what n2 does in #c is for the second of the two that n1 has made
+    "a channel is made twice": (2, 1, [*TWO, "0 JOIN #c", "0 PART #c", "0 JOIN #c", "1 JOIN #c", "1 MODE #c -o n2"]),
+    # a.net reads who is in #c at b.net, kicks that one, and reads what is set in #c
+    "who is alone is kicked as a burst comes": (2, 1, [
+        "a.net n1", "b.net n2", "0 JOIN #c", "1 JOIN #c", "1 MODE #c +k x", "link a.net b.net", "deliver -1", "deliver -1", "deliver 0",
+        "deliver 0", "deliver -1", "deliver -1", "0 KICK #c n2"]),
+    # b.net reads of a topic where #c is not there. It begins by n3, who comes from c.net, and then n4 comes from a.net
+    "a channel begins by who is passed on": (3, 1, [
+        "link a.net b.net", "link b.net c.net", "settle", "a.net n1", "b.net n2", "c.net n3", "a.net n4", "settle", "0 JOIN #c", "settle",
+        "1 JOIN #c", "settle", "0 MODE #c +o n2", "settle", "1 KICK #c n1", "1 PART #c", "2 JOIN #c", "0 TOPIC #c :t1", "3 JOIN #c",
+        "deliver 0", "deliver -1", "deliver 0"]),
+    # the topic is nothing at b.net, which a.net sees by its base alone
+    "what is set before who is passed on": (3, 1, [
+        "link a.net b.net", "link b.net c.net", "settle", "a.net n1", "b.net n2", "c.net n3", "settle", "0 JOIN #c", "settle", "1 JOIN #c", "settle",
+        "0 MODE #c +o n2", "settle", "1 KICK #c n1", "1 PART #c", "2 JOIN #c", "0 TOPIC #c :t1", "deliver -1"]),
+    # n2 sets the key of the channel that has ended at a.net, where n3 has made it anew
+    "what is set in a channel that has ended": (2, 1, [
+        *TWO, "a.net n3", "settle", *TOPIC, "1 JOIN #c", "settle", "0 MODE #c +o n2", "settle", "0 KICK #c n2", "0 PART #c", "2 JOIN #c",
+        "1 MODE #c +k x"]),
     # one piece takes n2 out of both
     "two channels are left at once": (2, MOST, [*TWO, "1 JOIN #C", "1 JOIN #d", "1 MODE #c +k y", "0 JOIN #c", "1 JOIN 0"]),
     # b.net reads that n2 is kicked and then n3, and may take it after the first that the channel has ended; told then, n3 would come back
@@ -62,8 +87,21 @@ SELDOM = {
 }
 
 
+# by title: the value of a place of a channel at rest
+LEFT = {"what is set in a channel that has ended": (b"#c", KEY, None)}
+
+
 def tried(settings):
     """The scripts that go wrong, by title. `settings` gives those of a network with so many lines in a piece."""
-    faults = [(title, fault_of(NAMES[:count], [act(each) for each in told], settings(most)))
-              for title, (count, most, told) in SELDOM.items()]
+    faults = [(title, fault_of(title, count, told, settings(most))) for title, (count, most, told) in SELDOM.items()]
     return [fault for fault in faults if fault[1]]
+
+
+def fault_of(title, count, told, settings):
+    try:
+        net = played(NAMES[:count], [act(each) for each in told], settings)
+        if title in LEFT and any(value_at(room_of(layer.server), *LEFT[title][:2]) != LEFT[title][2] for layer in net.layers.values()):
+            raise Fault(f"at rest is not {LEFT[title]}")
+    except FAULTS as fault:
+        return f"{type(fault).__name__}: {fault}"
+    return None

@@ -1,4 +1,5 @@
-"""Servers without a layer, as tests/hostile_links/model.py has them, and the deeds of a server that no line says today."""
+"""Servers without a layer, as tests/hostile_links/model.py has them, and the deeds of a server that no line says today. On a channel that is not
+there a deed does nothing."""
 
 import copy
 import importlib.util
@@ -44,6 +45,8 @@ def row_of(channel):
 
 def kicked_by_server(server, link, deed):
     """A server kicks a member; what came by a link does not go back there."""
+    if deed.channel not in server.channels:
+        return
     channel, user = server.channels[deed.channel], server.users[deed.nick]
     line = written(deed.server, b"KICK", [channel.name, user.nick], deed.text)
     server.show(channel.members, line)
@@ -53,6 +56,8 @@ def kicked_by_server(server, link, deed):
 
 def modes_by_server(server, link, deed):
     """A server changes modes as they are written."""
+    if deed.channel not in server.channels:
+        return
     channel = server.channels[deed.channel]
     words = server.change(channel, deed.server, list(deed.changes))
     server.tell(written(deed.server, b"MODE", [channel.name, *words]), link)
@@ -60,6 +65,8 @@ def modes_by_server(server, link, deed):
 
 def topic_by_server(server, link, deed):
     """A server sets a topic, be it greater or not."""
+    if deed.channel not in server.channels:
+        return
     channel = server.channels[deed.channel]
     line = written(deed.server, b"TOPIC", [channel.name], deed.text)
     server.show(channel.members, line)
@@ -69,6 +76,8 @@ def topic_by_server(server, link, deed):
 
 def spelled_by_server(server, link, deed):
     """A channel takes a greater spelling. Nobody is shown it; to other links it is an NJOIN of nobody."""
+    if fold(deed.channel) not in server.channels:
+        return
     channel = server.channels[fold(deed.channel)]
     channel.name = max(channel.name, deed.channel)
     server.tell(written(deed.server, b"NJOIN", [channel.name], b""), link)

@@ -6,8 +6,7 @@ import crossing
 import ends
 import layer
 import lines
-from effects import Go, Out, rank
-from lines import MARK
+from effects import NOTHING, Go, Out, rank
 
 
 def followed_but_by_kill(theirs, ours):
@@ -15,47 +14,14 @@ def followed_but_by_kill(theirs, ours):
     return theirs if isinstance(theirs, Go) else RIGHT["name_followed"](theirs, ours)
 
 
+def as_line(writer, reader, tale, join):
+    """What a server raises is given as a line alone, which is taken where the channel has a member behind the link."""
+    return RIGHT["raise_asked"](writer, reader, tale, join) if reader.has_far(join.channel) else []
+
+
 def lagging(end, count):
     """A count is taken for one less."""
     return RIGHT["counted"](end, count - 1)._replace(heard=count)
-
-
-def told_at_once(self, link, line, is_set):
-    """A channel is told again in the middle of a piece."""
-    put = RIGHT["line"](self, link, line, is_set)
-    if link in self.ends:
-        self.tell_again(link)
-    return put
-
-
-def looked_at_last(end, names):
-    """Each time it is looked anew, so that the last line of a piece alone counts."""
-    return RIGHT["looked"](end._replace(again=frozenset()), names)
-
-
-def but_of_makers(told, is_told):
-    """A JOIN that makes an operator brings no entry."""
-    return [] if told.command == b"JOIN" and told.words[0].endswith(MARK) else RIGHT["entries"](told, is_told)
-
-
-def of_one(told, is_told):
-    """An NJOIN brings no entries."""
-    return [] if told.command == b"NJOIN" else RIGHT["entries"](told, is_told)
-
-
-def but_of_bursts(told, is_told):
-    """Who comes by a burst has no entry."""
-    return [] if is_told else RIGHT["entries"](told, is_told)
-
-
-def with_outs_alone(room, effects):
-    """PART and KICK take somebody out, and who goes does not."""
-    return RIGHT["taken_out"](room, [effect for effect in effects if isinstance(effect, Out)])
-
-
-def by_now(end, name):
-    """Of a channel that somebody has left it is taken that it has not ended."""
-    return not any(isinstance(entry, Out) and entry.channel == name for _, entry in end.log) and RIGHT["may_have_ended"](end, name)
 
 
 WRONG = {
@@ -67,19 +33,19 @@ WRONG = {
     "taken out once": (crossing, "is_out", lambda ours, nick, channel: isinstance(ours, Go) and RIGHT["is_out"](ours, nick, channel)),
     "greater of two": (crossing, "is_greater", lambda value, other: True),
     "greater, not lesser": (crossing, "is_greater", lambda value, other: rank(value) < rank(other)),
-    "ended channel": (crossing, "ends", lambda room, ours, channel: False),
-    "told again": (layer, "told_again", lambda end, side, own, most: end._replace(again=frozenset())),
-    "told again behind the piece": (layer.Layer, "line", told_at_once),
-    "looked behind each line": (layer, "looked", looked_at_last),
-    "looked behind a collision": (ends, "collides", lambda effects, became: False),
-    "looked behind who goes": (ends, "taken_out", with_outs_alone),
-    "looked where they never come": (ends, "never_come_to", lambda log, behind: frozenset()),
-    "entries of who makes": (layer, "entries", but_of_makers),
-    "entries of NJOIN": (layer, "entries", of_one),
-    "entries of a burst": (layer, "entries", but_of_bursts),
-    "told no more": (ends, "untold", lambda log, effects: log),
-    "outs on the walk": (ends, "may_have_ended", by_now),
-    "spelling told again": (lines, "spells_alone", lambda reader, join: False),
+    "asked": (layer, "meant", lambda end, side, line, is_set: (*RIGHT["meant"](end, side, line, is_set)[:2], None)),
+    "asked where made anew": (ends, "was_made", lambda log, name: False),
+    "asked where somebody is gone": (ends, "is_somebody_gone", lambda log: False),
+    "asked where the log tells of it": (ends, "is_told_of", lambda log, name: False),
+    "begins where passed on": (layer.Layer, "begins", lambda self, link, item: False),
+    "begins by the mark": (ends, "is_marked", lambda told: False),
+    "two lives": (crossing, "is_of_old_life", lambda theirs, ours: False),
+    "one life": (crossing, "is_one_life", lambda theirs, ours: False),
+    "one life from then on": (crossing, "one_life", lambda theirs: NOTHING),
+    "told where nobody is": (lines.Reader, "has_near", lambda self, channel: True),
+    "raised where nobody is": (lines, "raise_asked", as_line),
+    "begins at the other end": (ends, "is_new", lambda room, told: False),
+    "spelling told": (lines, "spells_alone", lambda reader, join: False),
     "echo": (layer, "is_echo", lambda link, arrival, command: False),
     "count": (layer, "counted", lagging),
     "lost together": (ends, "goes_on", lambda before, line: False),
