@@ -19,10 +19,12 @@ without members. So this end asks, by a line of the layer that is a piece of its
     a.net writes    :al PART #c :bye            by which #c ends
     b.net writes    :bo JOIN #c                 and reads the PART: #c is there, with a key
     a.net writes    TELL #c                     behind the JOIN, by which it has #c without the key
-    b.net writes    :b.net NJOIN #c :bo, :b.net MODE #c +nk x
+    b.net writes    COUNT 17 2 set
+                    :b.net NJOIN #c :bo
+                    :b.net MODE #c +nk x
 
-What is told raises: each place has the greater of what it has and what is told. It is what is set as the TELL is read. By then it may be that all
-members at the other end are behind the link; it is told then as by a server that sets, for where no member is behind a link nothing is raised.
+What is told is set, as it is when the TELL is read. It is not raised: by then it may be that all members at the other end are behind the link,
+and where no member is behind a link nothing is raised.
 
     b.net writes    :bo PART #c :bye, and reads :ann JOIN #c, TELL #c
     b.net writes    COUNT 17 1 set

@@ -28,6 +28,7 @@ class Cause(NamedTuple):
 
 
 ITSELF = Cause(None, False, False)
+BY_TELLING = ITSELF._replace(is_set=True)
 
 
 class Layer:
@@ -101,17 +102,16 @@ class Layer:
         return name is not None and fold(name) not in self.server.channels
 
     def tell(self, link, name):
-        """The other end is told of a channel. It has asked by a piece of its own, so that this stands behind the piece that is read. Where all
-        members are behind the link it is told as by a server that sets, for else nothing is taken there.
+        """The other end is told of a channel, as by a server that sets: all members may be behind the link by then, and else nothing is taken
+        there. It has asked by a piece of its own, so that this stands behind the piece that is read.
 
             a.net writes    :ann JOIN #c\\7o, TELL #c       in whose #c no topic is set
             b.net writes    :bo PART #c :bye                and reads the TELL: in #c is ann alone
             b.net writes    COUNT 17 1 set
                             :b.net TOPIC #c :hello
         """
-        reader = self.reader(link)
-        for line in channel_lines(reader, self.module.OWN, name):
-            self.put_out(link, line, ITSELF._replace(is_set=not reader.has_near(name)))
+        for line in channel_lines(self.reader(link), self.module.OWN, name):
+            self.put_out(link, line, BY_TELLING)
         return []
 
     def reader(self, link):

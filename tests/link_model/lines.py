@@ -90,11 +90,6 @@ class Reader(NamedTuple):
         """Whether somebody behind the link has a nickname."""
         return nick in self.room.people and self.room.people[nick].home in self.side.homes.values()
 
-    def has_near(self, channel):
-        """Whether a channel has a member that is not behind the link."""
-        there = self.room.channels.get(channel)
-        return there is not None and not all(map(self.is_far, there.members))
-
     def has_far(self, channel):
         """Whether a channel has a member behind the link."""
         there = self.room.channels.get(channel)

@@ -42,7 +42,7 @@ WRONG = {
     "two lives": (crossing, "is_of_old_life", lambda theirs, ours: False),
     "one life": (crossing, "is_one_life", lambda theirs, ours: False),
     "one life from then on": (crossing, "one_life", lambda theirs: NOTHING),
-    "told where nobody is": (lines.Reader, "has_near", lambda self, channel: True),
+    "set where it is told": (layer, "BY_TELLING", layer.ITSELF),
     "raised where nobody is": (lines, "raise_asked", as_line),
     "begins at the other end": (ends, "is_new", lambda room, told: False),
     "spelling told": (lines, "spells_alone", lambda reader, join: False),
