@@ -372,7 +372,7 @@ fn line_of(
         LineKind::Squit => squit_text(&by, &server(rt, names.other), &text),
         LineKind::Kill => kill_text(&by, &nick(rt, names.nick)),
         LineKind::Njoin => njoin_text(&by, &to, &members(rt, alloc, names.members)),
-        LineKind::Modes => mode_text(&by, &to, changes(alloc, names.modes).as_slice()),
+        LineKind::Modes => mode_text(by.as_bytes(), &to, changes(alloc, names.modes).as_slice()),
         LineKind::Topic => topic_text(&by, &to, &text),
     }
 }
