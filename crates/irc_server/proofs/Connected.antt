@@ -61,8 +61,9 @@ use Rattle.irc_server.specs.LinkServed.{after_heard, line_served, link_opened, m
 use Rattle.irc_server.specs.LinkServed.{opening_parts, owes}
 use Rattle.irc_server.specs.Served.{ReadEvent, of_client, link_up, link_says, link_down, served}
 use Rattle.irc_server.specs.declared.setting.Setting.{Setting}
+use Rattle.irc_server.specs.declared.setting.Setting.TheVariants as setting
 use Rattle.irc_server.specs.LinesThatSet.{SettingRead, after_setting, line_set, read_at}
-use Rattle.irc_server.specs.LinesThatSet.{setting_effects, setting_parts, setting_told}
+use Rattle.irc_server.specs.LinesThatSet.{setting_effects, setting_parts, setting_told, spelled_by}
 use Rattle.irc_server.specs.Connected.{AreConnectedAfter, AreConnectedBehind, WhoIsConnected}
 use Rattle.irc_server.specs.Connected.{WhoIsConnectedBehind, client_comes}
 use Rattle.irc_server.specs.Connected.{client_goes, ends_client, has_client, has_link}
@@ -958,12 +959,22 @@ who_is_connected view (link_down link) new = as_law view (link_down link) (by_li
 
 -- ---- a line by which a server sets
 
+spelled_counts : (clients links : ℕ → Bool) (what : Setting)
+    → Stays clients links (spelled_by what)
+spelled_counts clients links (setting.Modes server channel changes) s so = so
+spelled_counts clients links (setting.Topic server channel text) s so = so
+spelled_counts clients links (setting.Spelling server channel) s so =
+    titled_counts clients links channel s so
+spelled_counts clients links (setting.Removal server channel nick text) s so = so
+
 setting_counts : (clients links : ℕ → Bool) (link : ℕ) (what : Setting)
     → Stays clients links (setting_told link what)
 setting_counts clients links link what s so =
+    let spelled = spelled_by what s in
     all_told_counts clients links (Some link) (setting_parts what)
-    (all_changed (setting_effects what) s)
-    (all_changed_counts clients links (setting_effects what) s so)
+    (all_changed (setting_effects what) spelled)
+    (all_changed_counts clients links (setting_effects what) spelled
+    (spelled_counts clients links what s so))
 
 behind_law : (view : View) (link : ℕ) (read : Result Parsed LineFault) (s : Served)
     → AreCounted view nobody nobody nobody nobody s → AreConnectedBehind view link read s

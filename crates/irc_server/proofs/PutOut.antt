@@ -41,7 +41,8 @@ use Rattle.irc_server.specs.DeedTold.{all_told, arrival_of, deed_told, deeds_tol
 use Rattle.irc_server.specs.DeedTold.{gain_told, link_lost, lost_behind, titled_view, told_by}
 use Rattle.irc_server.specs.LinkServed.{on_link}
 use Rattle.irc_server.specs.declared.setting.Setting.{Setting}
-use Rattle.irc_server.specs.LinesThatSet.{setting_effects, setting_parts, setting_told}
+use Rattle.irc_server.specs.declared.setting.Setting.TheVariants as setting
+use Rattle.irc_server.specs.LinesThatSet.{setting_effects, setting_parts, setting_told, spelled_by}
 use Rattle.irc_server.proofs.AllOf.{all-append, all-each, all-flat, all-one, all-picked}
 use Rattle.irc_server.proofs.AllOf.{all_entries}
 use Rattle.irc_commands.specs.Closing.{error_line}
@@ -231,10 +232,17 @@ module _ (test : Sent → Bool) (Holds : List Sent → Type 0) (keeps : IsKeptBe
   lost_stays link s holds =
       deeds_stays (Some link) (lost_behind s.state link (get s.state.ends link)) s holds
 
+  spelled_stays : (what : Setting) → Stays (spelled_by what)
+  spelled_stays (setting.Modes server channel changes) s holds = holds
+  spelled_stays (setting.Topic server channel text) s holds = holds
+  spelled_stays (setting.Spelling server channel) s holds = holds
+  spelled_stays (setting.Removal server channel nick text) s holds = holds
+
   pub setting_stays : (link : ℕ) (what : Setting) → Stays (setting_told link what)
   setting_stays link what s holds =
-      all_stays (Some link) (setting_parts what) (all_changed (setting_effects what) s)
-      (all_changed_stays (setting_effects what) s holds)
+      let spelled = spelled_by what s in
+      all_stays (Some link) (setting_parts what) (all_changed (setting_effects what) spelled)
+      (all_changed_stays (setting_effects what) spelled (spelled_stays what s holds))
 
   -- ---- what clients do, where it holds of nothing put out
 

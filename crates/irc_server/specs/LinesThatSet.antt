@@ -9,6 +9,8 @@
 --                              came: all changes are made, also those that raise nothing
 --   `:b.net TOPIC #c :x`       line_to 1 `:a.net TOPIC #c :x`, then line_on 3 the same line: it is
 --                              set, though y is greater
+--   `:b.net NJOIN #c :`, #C here   nobody is shown it, then line_on 3 the same line: the channel is
+--                              #c, the greater of the two spellings
 --   `:b.net KICK #c bo :out`   line_to 1 `:bo!u@h PART #c :out`, then line_on 3 the same line as it
 --                              came; so it is of al, who is told of its own PART
 --   `:b.net KICK #c zz :out`   nothing, as zz is nobody; so it is of one who is no member, and of
@@ -37,14 +39,15 @@ use Rattle.irc_room.specs.Readers.{channel_at, flags_at, spelling_at}
 use Rattle.irc_room.specs.Room.{Room}
 use Rattle.irc_link_words.specs.Commands.{command_of}
 use Rattle.irc_link_words.specs.declared.commands.LinkCommand.{LinkCommand}
-use Rattle.irc_link_words.specs.declared.commands.LinkCommand.TheVariants.{OfEffects}
+use Rattle.irc_link_words.specs.declared.commands.LinkCommand.TheVariants.{OfEffects, OfServers}
 use Rattle.irc_link_words.specs.declared.commands.EffectCommand.TheVariants as command
+use Rattle.irc_link_words.specs.declared.commands.ServerCommand.TheVariants.{Njoin}
 use Rattle.irc_link_words.specs.Words.{are_changes, are_members_named, are_words, changes_of}
 use Rattle.irc_link_words.specs.Words.{is_for_channel}
 use Rattle.irc_link_reader.specs.Reader.{Reader, may_come, reader_of}
 use Rattle.irc_link_writer.specs.Written.{from}
 use Rattle.irc_merge.specs.Deeds.{changes_made}
-use Rattle.irc_burst_lines.specs.DeedLines.{mode_parts, topic_parts}
+use Rattle.irc_burst_lines.specs.DeedLines.{mode_parts, njoin_parts, topic_parts}
 use Rattle.irc_stage.specs.Ends.{is_met}
 use Rattle.irc_stage.specs.View.{End, View}
 use Rattle.irc_stage.specs.EffectTold.{Served, all_changed, in_silence}
@@ -53,6 +56,7 @@ use Rattle.irc_server.specs.declared.event.ServerFault.{ServerFault}
 use Rattle.irc_server.specs.declared.event.ServerFault.TheVariants.{Memory, Failed}
 use Rattle.irc_server.specs.declared.setting.Setting.{Setting}
 use Rattle.irc_server.specs.declared.setting.Setting.TheVariants as setting
+use Rattle.irc_server.specs.DeedTold.{titled_view}
 use Rattle.irc_server.specs.Heard.{closes}
 use Rattle.irc_server.specs.LinkServed.{after_heard, line_served}
 use Rattle.irc_server.specs.Served.{no_link}
@@ -98,6 +102,16 @@ topic_line room reader server (channel ∷ text ∷ []) =
     (if_channel room channel (setting.Topic server channel text))
 topic_line room reader server other = Err reason.Parameters
 
+-- an NJOIN of nobody sets a spelling; one that brings somebody is heard as from any link
+abbrev pub spelling : Room → Reader → (server channel : List ℕ) → SettingRead
+spelling room reader server channel =
+    unless_wrong true (may_come reader server) (is_channel channel)
+    (if_channel room channel (setting.Spelling server channel))
+
+abbrev pub spelling_line : Room → Reader → List ℕ → List (List ℕ) → Option SettingRead
+spelling_line room reader server (channel ∷ [] ∷ []) = Some (spelling room reader server channel)
+spelling_line room reader server other = None
+
 abbrev pub kick_line : Room → Reader → List ℕ → List (List ℕ) → SettingRead
 kick_line room reader server (channel ∷ nick ∷ text ∷ []) =
     unless_wrong (are_words text) (may_come reader server) (is_channel channel && is_nick nick)
@@ -114,6 +128,8 @@ by_command room reader server params (Some (OfEffects command.Topic)) =
     Some (topic_line room reader server params)
 by_command room reader server params (Some (OfEffects command.Kick)) =
     Some (kick_line room reader server params)
+by_command room reader server params (Some (OfServers Njoin)) =
+    spelling_line room reader server params
 by_command room reader server params other = None
 
 -- it is one only with a server in front
@@ -141,19 +157,27 @@ read_at view link read (Some end) = setting_read view link end read
 abbrev pub setting_effects : Setting → List Effect
 setting_effects (setting.Modes server channel changes) = changes_made channel changes
 setting_effects (setting.Topic server channel text) = SetTopic by.Home channel text ∷ []
+setting_effects (setting.Spelling server channel) = []
 setting_effects (setting.Removal server channel nick text) = Part nick channel text ∷ []
+
+-- a spelling is shown to nobody
+abbrev pub spelled_by : Setting → Served → Served
+spelled_by (setting.Spelling server channel) s = titled_view channel s
+spelled_by other s = s
 
 -- the line as it came
 abbrev pub setting_parts : Setting → Written
 setting_parts (setting.Modes server channel changes) = mode_parts server channel changes
 setting_parts (setting.Topic server channel text) = topic_parts server channel text
+setting_parts (setting.Spelling server channel) = njoin_parts server channel []
 setting_parts (setting.Removal server channel nick text) =
     from server (codes "KICK") (channel ∷ nick ∷ []) (Some text)
 
 -- it is done, and told on to the other links
 abbrev pub setting_told : ℕ → Setting → Served → Served
 setting_told link what s =
-    told_on_all (Some link) (setting_parts what) (all_changed (setting_effects what) s)
+    told_on_all (Some link) (setting_parts what)
+    (all_changed (setting_effects what) (spelled_by what s))
 
 -- what comes of a line that sets
 abbrev pub setting_followed : View → ℕ → SettingRead → Served

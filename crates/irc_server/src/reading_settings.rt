@@ -5,7 +5,8 @@ ghost use Rattle.irc_line.specs.Reading.{read_of};
 ghost use Rattle.irc_link_reader.specs.Loops.Readings.{reader};
 ghost use Rattle.irc_link_words.specs.Commands.{command_of};
 ghost use Rattle.irc_server.specs.LinesThatSet.{by_command, by_prefix, if_channel, kick_line};
-ghost use Rattle.irc_server.specs.LinesThatSet.{member_nick, mode_line, setting_read, topic_line};
+ghost use Rattle.irc_server.specs.LinesThatSet.{member_nick, mode_line, setting_read};
+ghost use Rattle.irc_server.specs.LinesThatSet.{spelling, spelling_line, topic_line};
 ghost use Rattle.irc_server.specs.Loops.Settings.{changes_read, removal_of};
 
 use crate::setting::Setting;
@@ -14,8 +15,8 @@ use irc_channels::Words;
 use irc_line::{Message, parse};
 use irc_link_reader::{Arrival, expect_from};
 use irc_link_words::{
-    EffectCommand, LinkCommand, Params, command_of, expect_members, is_for_channel, read_changes,
-    read_channel, read_nick, read_words,
+    EffectCommand, LinkCommand, Params, ServerCommand, command_of, expect_members, is_for_channel,
+    read_changes, read_channel, read_nick, read_words,
 };
 use irc_names::{ChannelName, Nick, ServerName};
 use irc_room::{ModeChanges, Room};
@@ -83,6 +84,9 @@ fn read_command(
         Some(LinkCommand::OfEffects(EffectCommand::Kick)) => {
             Ok(Some(kick_line(at, server, params)))
         }
+        Some(LinkCommand::OfServers(ServerCommand::Njoin)) => {
+            Ok(spelling_line(at, server, params))
+        }
         _ => Ok(None),
     }
 }
@@ -140,6 +144,41 @@ fn if_channel(room: &Room, channel: &[u8], setting: Setting) -> Option<Setting>
     } else {
         None
     }
+}
+
+/// A channel is spelled, by a line that brings nobody.
+fn spelling_line(
+    at: Arrival<'_>,
+    server: &ServerName,
+    mut params: Params<'_>,
+) -> Option<Result<Option<Setting>, CloseReason>>
+    ensures { result ≡ spelling_line at.entry.room.now.room (reader at.entry) server.now
+        params.entry }
+{
+    let Ok(channel) = params.next() else {
+        return None;
+    };
+    let Ok(members) = params.next() else {
+        return None;
+    };
+    if !members.is_empty() || params.end().is_err() {
+        return None;
+    }
+    Some(spelling(at, server, channel))
+}
+
+/// The spelling that is set, of a channel that is there.
+fn spelling(
+    at: Arrival<'_>,
+    server: &ServerName,
+    target: &[u8],
+) -> Result<Option<Setting>, CloseReason>
+    ensures { result ≡ spelling at.entry.room.now.room (reader at.entry) server.now target.now }
+{
+    expect_from(at, server.as_bytes())?;
+    let channel = read_channel(target)?;
+    let server = server.copy();
+    Ok(if_channel(at.room, target, Setting::Spelling { server, channel }))
 }
 
 /// A topic is set.

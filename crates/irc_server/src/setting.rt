@@ -24,6 +24,13 @@ pub(crate) enum Setting {
         /// The topic.
         text: Words,
     },
+    /// NJOIN of nobody: the channel is spelled so, where that is the greater.
+    Spelling {
+        /// Whose line it is.
+        server: ServerName,
+        /// The channel, as the line spells it.
+        channel: ChannelName,
+    },
     /// KICK: a member is taken out.
     Removal {
         /// Whose line it is.

@@ -6,15 +6,15 @@ ghost use Rattle.irc_line.specs.PartViews.{words_now};
 ghost use Rattle.irc_line.specs.Reading.{read_of};
 ghost use Rattle.irc_link_writer.specs.Written.{from};
 ghost use Rattle.irc_stage.specs.EffectTold.{all_changed};
-ghost use Rattle.irc_server.specs.LinesThatSet.{line_set, setting_effects};
-ghost use Rattle.irc_server.specs.LinesThatSet.{setting_followed, setting_parts, setting_told};
+ghost use Rattle.irc_server.specs.LinesThatSet.{line_set, setting_effects, setting_followed};
+ghost use Rattle.irc_server.specs.LinesThatSet.{setting_parts, setting_told, spelled_by};
 
 use crate::losing::lose_link;
 use crate::reading_settings::read_setting;
 use crate::serving::hear_line;
 use crate::setting::Setting;
 use irc_batch::CloseReason;
-use irc_burst_lines::{mode_text, topic_text};
+use irc_burst_lines::{mode_text, njoin_text, topic_text};
 use irc_line::{Parts, Prefix, Text, write_message};
 use irc_names::ServerName;
 use irc_room::{By, Effect};
@@ -60,7 +60,18 @@ fn set(serving: Serving, link: Link, setting: Setting) -> Result<Serving, AllocE
     ensures { IfOk result (λ told. told ≡ setting_told link setting serving) }
 {
     let line = setting_text(&setting);
+    let serving = spell(serving, &setting);
     change(serving, link, effect_of(setting))?.tell_all(Some(link), &line)
+}
+
+/// A channel takes a spelling, where one is set.
+fn spell(serving: Serving, setting: &Setting) -> Serving
+    ensures { result ≡ spelled_by setting.now serving }
+{
+    match setting {
+        Setting::Spelling { channel, .. } => serving.respell(channel),
+        _ => serving,
+    }
 }
 
 /// The line in which a server sets this.
@@ -78,6 +89,7 @@ fn setting_text(setting: &Setting) -> Text
             channel,
             text,
         } => topic_text(server, channel, text),
+        Setting::Spelling { server, channel } => njoin_text(server, channel, &[]),
         Setting::Removal {
             server,
             channel,
@@ -129,6 +141,7 @@ fn effect_of(setting: Setting) -> Option<Effect>
             channel,
             text,
         }),
+        Setting::Spelling { .. } => None,
         Setting::Removal {
             channel,
             nick,
