@@ -567,8 +567,6 @@ impl Wire for MemoryWire {
 
     fn named(&mut self, _conn: u64) {}
 
-    fn owes(&mut self, _link: u64, _bytes: usize) {}
-
     fn whence(&self, _conn: u64) -> Option<Host> {
         None
     }

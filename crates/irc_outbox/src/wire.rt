@@ -124,12 +124,6 @@ pub trait Wire {
     fn named(&mut self, conn: u64)
         ensures { Keeps is_after self.old self.new };
 
-    /// So many bytes were put out on a link that its other end has not said to have read: a device
-    /// may slow others for them, and may fail at the link where they are too many. It is no part of
-    /// the account.
-    fn owes(&mut self, link: u64, bytes: usize)
-        ensures { Keeps is_after self.old self.new };
-
     /// From which host a connection comes, also one that was closed since `ready` was asked last;
     /// none where that is not known. It is no part of the account.
     fn whence(&self, conn: u64) -> Option<Host>;

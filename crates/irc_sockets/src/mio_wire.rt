@@ -449,10 +449,6 @@ impl Wire for MioWire {
         self.unnamed.forget(conn);
     }
 
-    fn owes(&mut self, link: u64, bytes: usize) {
-        self.sockets.talkers.owe(link as usize, bytes);
-    }
-
     fn whence(&self, conn: u64) -> Option<Host> {
         host_of(self.sockets.address(conn as usize)?)
     }

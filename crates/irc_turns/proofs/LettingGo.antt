@@ -1,14 +1,14 @@
 -- Some are let go, one after another.
 use Rattle.std.proofs.Common.{◌≡◌, ◌≢◌, ℕ, ◌+◌, ◌-◌, ◌<◌, ◌==◌, Bool, true, false, not, ◌&&◌}
 use Rattle.std.proofs.Common.{nat_eq, Option, Some, None, List, length, get_or, refl, sym, ◌∙◌, ap}
-use Rattle.std.proofs.Common.{◌||◌, subst, arith}
+use Rattle.std.proofs.Common.{subst, arith}
 use Rattle.std.proofs.lemmas.Bool.{eqb-true, eqb-false}
 use Rattle.std.proofs.lemmas.List.{get_or-take, get_or-set_other}
 use Rattle.std.proofs.lemmas.Option.{slice_get-get_or}
 use Rattle.std.specs.List.{slice_get, swap_remove}
 use Rattle.slab.specs.Slab.{Slab, get, with_value}
 use Rattle.slab.proofs.SlabLemmas.{Updates-with_value}
-use Rattle.std.specs.Option.{IsSome, option_map_or}
+use Rattle.std.specs.Option.{IsSome}
 use Rattle.irc_brakes.specs.Reading.{is_read_beside}
 use Rattle.irc_turns.specs.HeldBack.{may_wait_at}
 use Rattle.irc_turns.specs.declared.allowance.LinesPace.{LinesPace}
@@ -19,8 +19,7 @@ use Rattle.irc_turns.specs.declared.talker.Talker.{Talker}
 use Rattle.irc_turns.specs.Numbered.{NumberedTalkers, talker_at, talker_changed_if}
 use Rattle.irc_turns.specs.Numbered.{talker_changed_at, tried_again, tried_for, let_go_one, is_due}
 use Rattle.irc_turns.specs.Numbered.{is_due_for, is_grown_one, is_filled_one, is_paced_one}
-use Rattle.irc_turns.specs.Numbered.{owes_much_at}
-use Rattle.irc_turns.specs.Talking.{held_no_more, owes_much}
+use Rattle.irc_turns.specs.Talking.{held_no_more}
 
 -- ---- those before the place from which one was taken stay
 
@@ -118,17 +117,6 @@ both_kept : (may b c : Bool) → (b ≡ true → c ≡ true) → not (may && b) 
 both_kept true b c keeps e = not_it c (keeps (is_not b e))
 both_kept false b c keeps e = cc e
 
-is_no : (b : Bool) → not b ≡ true → b ≡ false
-is_no true e = cc e
-is_no false e = refl
-
-neither : (a b c : Bool) → (not b ≡ true → not c ≡ true) → (a || b) ≡ false → (a || c) ≡ false
-neither true b c keeps e = e
-neither false b c keeps e = is_no c (keeps (ap not e))
-
-abbrev owes_little : Option Talker → Bool
-owes_little slot = not (option_map_or owes_much slot false)
-
 -- nothing that lets others go changes how much one may say
 let_go_says : (pace : Option LinesPace) (now : ℕ) (s : Talker)
     → is_paced_one pace now (Some (held_no_more s)) ≡ is_paced_one pace now (Some s)
@@ -144,11 +132,7 @@ waits : (now place : ℕ) (gone held : Held) (why : Reason) (talkers : NumberedT
     → is_due_for now (let_go_one place gone talkers) held why ≡ false
     → is_due_for now talkers held why ≡ false
 waits now place gone held OthersFull talkers not_due =
-    neither (is_read_beside nat_eq talkers.full held.who) _ _
-    (before owes_little place gone talkers held.who (λ s e. e) (λ s e. e))
-    (ap (λ full. is_read_beside nat_eq full held.who
-    || owes_much_at (let_go_one place gone talkers) held.who)
-    (sym (same_full gone.reason talkers)) ∙ not_due)
+    ap (λ full. is_read_beside nat_eq full held.who) (sym (same_full gone.reason talkers)) ∙ not_due
 waits now place gone held (Grown mark) talkers not_due =
     not_it _ (before (is_grown_one talkers.marks mark) place gone talkers mark.number (λ s e. e)
     (λ s e. e)

@@ -1,10 +1,10 @@
 -- Those who talk to the server, by their numbers, the queue of those that are to be reported, and
 -- who is held back.
 use Rattle.std.specs.Prelude.{◌≡◌, ◌≤◌, ◌⊎◌, ℕ, Bool, true, false, not, ◌&&◌, ◌||◌, ◌-◌, nat_eq}
-use Rattle.std.specs.Prelude.{nat_lt, if◌then◌else◌, Option, Some, None, is_none, List, [], ◌∷◌}
+use Rattle.std.specs.Prelude.{if◌then◌else◌, Option, Some, None, is_none, List, [], ◌∷◌}
 use Rattle.std.specs.Prelude.{length}
 use Rattle.std.specs.List.{slice_get, swap_remove}
-use Rattle.std.specs.Option.{option_or, option_map_or}
+use Rattle.std.specs.Option.{option_or}
 use Rattle.slab.specs.Slab.{Slab, get, with_value, Updates}
 use Rattle.irc_brakes.specs.Reading.{is_read_beside}
 use Rattle.irc_turns.specs.declared.allowance.LinesPace.{LinesPace}
@@ -26,7 +26,7 @@ use Rattle.irc_turns.specs.Queues.{is_first}
 use Rattle.irc_turns.specs.Talking.{new_talker, is_asked, too_much_for, may_take_more, is_put_off}
 use Rattle.irc_turns.specs.Talking.{written, takes_again, told_so, turn_over, held_back, named}
 use Rattle.irc_turns.specs.Talking.{held_no_more, is_over, is_over_soft, is_over_hard, may_be_held}
-use Rattle.irc_turns.specs.Talking.{may_be_eased, given_up, wants_signal, lines_allowed, owes_much}
+use Rattle.irc_turns.specs.Talking.{may_be_eased, given_up, wants_signal, lines_allowed}
 
 -- the talkers, the numbers of those that are to be reported, who is held back, the links for which
 -- far too much waits, how much is too much, how many came, and the pace of clients, if they keep to
@@ -236,37 +236,6 @@ link_named_if number talkers (Some talker) = record talkers {
 abbrev pub link_named : ℕ → NumberedTalkers → NumberedTalkers
 link_named number talkers = link_named_if number talkers (talker_at talkers number)
 
--- so much was put out on a link that its other end has not said to have read, and whether that is
--- far too much is known from then on
-abbrev pub owed_known_if : ℕ → ℕ → NumberedTalkers → Option Talker → NumberedTalkers
-owed_known_if bytes number talkers None = talkers
-owed_known_if bytes number talkers (Some talker) = record talkers {
-  by_number = with_value talkers.by_number number (record talker { owed = bytes });
-  full =
-      queued_as (is_over_hard talkers.marks (record talker { owed = bytes })) number talkers.full;
-}
-
-abbrev pub owed_known : ℕ → ℕ → NumberedTalkers → NumberedTalkers
-owed_known bytes number talkers = owed_known_if bytes number talkers (talker_at talkers number)
-
--- one is given up, unless it is gone, and reported, so that its read fails
-abbrev pub one_given_up_if : ℕ → NumberedTalkers → Option Talker → NumberedTalkers
-one_given_up_if number talkers None = talkers
-one_given_up_if number talkers (Some talker) = record talkers {
-  by_number = with_value talkers.by_number number (given_up talker);
-  queue = queued_behind number talkers.queue;
-}
-
-abbrev pub one_given_up : ℕ → NumberedTalkers → NumberedTalkers
-one_given_up number talkers = one_given_up_if number talkers (talker_at talkers number)
-
--- .. and a link is given up where that is more than the most that may be
-abbrev pub link_owes : ℕ → ℕ → NumberedTalkers → NumberedTalkers
-link_owes bytes number talkers =
-    if nat_lt talkers.marks.most_owed bytes
-    then one_given_up number (owed_known bytes number talkers)
-    else owed_known bytes number talkers
-
 -- the time of one is over: it is given up, unless it has named itself or is gone
 abbrev pub time_ended_if : TalkerMark → NumberedTalkers → Option Talker → NumberedTalkers
 time_ended_if mark talkers None = talkers
@@ -307,20 +276,10 @@ grown_reason talkers None = None
 grown_reason talkers (Some mark) =
     if is_grown talkers mark then Some (reason.Grown mark) else None
 
-abbrev pub owes_much_at : NumberedTalkers → ℕ → Bool
-owes_much_at talkers number = option_map_or owes_much (talker_at talkers number) false
-
--- whether one is read though far too much waits for some: unless for another than itself. A link
--- of which much is unread is read in any case: that its other end has read it is said on that link
--- alone, so two of which neither is read would stay so for good
-abbrev pub is_read_past_others : NumberedTalkers → ℕ → Bool
-is_read_past_others talkers number =
-    is_read_beside nat_eq talkers.full number || owes_much_at talkers number
-
--- far too much waits for others, and it owes less itself
+-- far too much waits for others
 abbrev pub full_reason : NumberedTalkers → ℕ → Option Reason
 full_reason talkers number =
-    if not (is_read_past_others talkers number) then Some reason.OthersFull else None
+    if not (is_read_beside nat_eq talkers.full number) then Some reason.OthersFull else None
 
 abbrev pub filled_reason : NumberedTalkers → Bool → Option TalkerMark → Option Reason
 filled_reason talkers may_wait None = None
@@ -398,15 +357,15 @@ ReportsFirst old new round result round_after = ReportsOf old.queue old new roun
 -- ---- who is let go
 
 abbrev pub is_due_for : ℕ → NumberedTalkers → Held → Reason → Bool
-is_due_for now talkers held reason.OthersFull = is_read_past_others talkers held.who
+is_due_for now talkers held reason.OthersFull = is_read_beside nat_eq talkers.full held.who
 is_due_for now talkers held (reason.Grown mark) = not (is_grown talkers mark)
 is_due_for now talkers held (reason.Filled mark) =
     not (may_wait_at now held && is_filled talkers mark)
 is_due_for now talkers held reason.Paced = not (is_paced talkers now held.who)
 
--- at this moment the reason is gone: far too much waits for no other, or it owes much itself; no
--- more than may waits for the link; the client takes bytes again, or its time is over; it may say a
--- line. So it is where that one is gone
+-- at this moment the reason is gone: far too much waits for no other; no more than may waits for
+-- the link; the client takes bytes again, or its time is over; it may say a line. So it is where
+-- that one is gone
 abbrev pub is_due : ℕ → NumberedTalkers → Held → Bool
 is_due now talkers held = is_due_for now talkers held held.reason
 

@@ -40,7 +40,6 @@ new_talker is_client serial now lines_pace = record {
   waiting = nothing_waits;
   is_just_met = false;
   spared = 0;
-  owed = 0;
   silent_since = now;
   free_until = 0;
   fills = None;
@@ -95,12 +94,8 @@ load talker =
 abbrev pub is_over_soft : Marks → Talker → Bool
 is_over_soft marks talker = nat_lt marks.soft (load talker)
 
--- its other end has not said to have read 1 MiB of what was put out
-abbrev pub owes_much : Talker → Bool
-owes_much talker = nat_le 1048576 talker.owed
-
 abbrev pub is_over_hard : Marks → Talker → Bool
-is_over_hard marks talker = nat_lt marks.hard (load talker) || owes_much talker
+is_over_hard marks talker = nat_lt marks.hard (load talker)
 
 -- it is given up; or it is a link for which something waits, which for 30 seconds took none of it,
 -- and of which all was read that came, and nothing came

@@ -13,8 +13,7 @@ const LONGEST_MS: u64 = 250;
 /// Why somebody is held back.
 #[derive(Clone, Copy, Drop)]
 pub(crate) enum Reason {
-    /// Far too much waits for a link other than itself: until for none does, or much of what was
-    /// put out on itself is unread.
+    /// Far too much waits for a link other than itself: until for none does.
     OthersFull,
     /// It has added to this link, for which too much waits: until no more than may does.
     Grown(TalkerMark),

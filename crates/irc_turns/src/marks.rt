@@ -5,9 +5,6 @@ ghost use Rattle.irc_turns.specs.Marks.{marks_of};
 /// The most that may wait for a link, in bytes, before nobody else is read.
 const MOST_OF_LINK_BYTES: usize = 262_144;
 
-/// The most above the room for a link, in bytes, that its other end may leave unread.
-const MOST_UNREAD_BYTES: usize = 1_048_576;
-
 /// How much may wait for somebody, in bytes, before others wait for it.
 #[derive(Clone, Copy, Drop)]
 pub struct Marks {
@@ -17,9 +14,6 @@ pub struct Marks {
     pub soft: usize,
     /// For a link, before nobody else is read.
     pub hard: usize,
-    /// The most that may be put out on a link that its other end has not said to have read, before
-    /// it is given up.
-    pub most_owed: usize,
 }
 
 impl Marks {
@@ -33,7 +27,6 @@ impl Marks {
             client: client_room / 2,
             soft: hard / 2,
             hard,
-            most_owed: link_room.saturating_add(MOST_UNREAD_BYTES),
         }
     }
 }

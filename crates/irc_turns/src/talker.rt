@@ -14,10 +14,6 @@ use std::alloc::Global;
 /// For how many milliseconds a link may neither take anything of what waits nor say anything.
 const LONGEST_SILENCE_MS: u64 = 30_000;
 
-/// So many bytes that were put out on a link, and that its other end has not said to have read, are
-/// far too much.
-const MOST_OWED_BYTES: usize = 1_048_576;
-
 /// A link that was held back for a client is not again before so many milliseconds are over.
 const HELD_ONCE_IN_MS: u64 = 1_000;
 
@@ -92,8 +88,6 @@ pub struct Talker {
     is_just_met: bool,
     /// How much of what waits for a link was put out as it was met.
     spared: usize,
-    /// How much was put out on a link that its other end has not said to have read.
-    owed: usize,
     /// Since when it has said nothing, and taken nothing of what waits.
     silent_since: Moment,
     /// Until when a link is not held back for a client again.
@@ -113,7 +107,7 @@ impl Talker {
     ghost use Rattle.irc_turns.specs.Talking.{Keeps, none_read, read_over, is_put_off, has_taken};
     ghost use Rattle.irc_turns.specs.Talking.{took_none, written, named, given_up, load};
     ghost use Rattle.irc_turns.specs.Talking.{is_over_soft, is_over_hard, may_be_held};
-    ghost use Rattle.irc_turns.specs.Talking.{may_be_eased, owes_much};
+    ghost use Rattle.irc_turns.specs.Talking.{may_be_eased};
     ghost use Rattle.irc_turns.specs.Talking.{is_over, wants_signal, signalled, too_much_for};
     ghost use Rattle.irc_turns.specs.Talking.{lines_allowed, has_said};
 
@@ -145,7 +139,6 @@ impl Talker {
             waiting: WaitingWrite::new(),
             is_just_met: false,
             spared: 0,
-            owed: 0,
             silent_since: now,
             free_until: Moment::of(0),
             fills: None,
@@ -217,27 +210,11 @@ impl Talker {
         self.load() > marks.soft
     }
 
-    /// Whether more waits for a link than may before nobody else is read, or more was put out on it
-    /// than its other end may leave unread.
+    /// Whether more waits for a link than may before nobody else is read.
     pub fn is_over_hard(&self, marks: Marks) -> bool
         ensures { result ≡ is_over_hard marks self.now }
     {
-        self.load() > marks.hard || self.owes_much()
-    }
-
-    /// Whether so much was put out on a link that its other end has not said to have read that
-    /// nobody is read but such links: each of them is, since what was read is said on it alone.
-    pub fn owes_much(&self) -> bool
-        ensures { result ≡ owes_much self.now }
-    {
-        self.owed >= MOST_OWED_BYTES
-    }
-
-    /// So many bytes were put out on a link that its other end has not said to have read.
-    pub fn owe(&mut self, bytes: usize)
-        ensures { self.new ≡ record self.old { owed = bytes } }
-    {
-        self.owed = bytes;
+        self.load() > marks.hard
     }
 
     /// The link is met: the server at its other end is known. A burst that waits holds nobody back.

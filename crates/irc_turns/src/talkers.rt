@@ -12,13 +12,11 @@ ghost use Rattle.irc_turns.specs.Numbered.{talker_at, SameButQueue, SameLists, I
 ghost use Rattle.irc_turns.specs.Numbered.{tried_again, queue_told, has_come, queue_asked};
 ghost use Rattle.irc_turns.specs.Numbered.{put_off_at, queue_written, round_behind, asked_again};
 ghost use Rattle.irc_turns.specs.Numbered.{full_written, SameButQueueAndFull, link_named};
-ghost use Rattle.irc_turns.specs.Numbered.{link_owes, owed_known, one_given_up};
 ghost use Rattle.irc_turns.specs.Numbered.{talker_mark, mark_of_one, turn_ended, time_ended};
 ghost use Rattle.irc_turns.specs.Numbered.{reason_for, grown_reason, full_reason, filled_reason};
 ghost use Rattle.irc_turns.specs.Numbered.{is_grown, is_filled, IsHeldFor, ReportsFirst, LetsGo};
 ghost use Rattle.irc_turns.specs.Numbered.{is_due, tried_for, wants_signal_one, LetsGoAt};
 ghost use Rattle.irc_turns.specs.Numbered.{lines_allowed_at, paced_reason, is_paced};
-ghost use Rattle.irc_turns.specs.Numbered.{owes_much_at, is_read_past_others};
 
 use crate::allowance::LinesPace;
 use crate::holding::{Held, Holding, Reason};
@@ -369,24 +367,7 @@ impl Talkers {
     fn others_full(&self, number: usize) -> Option<Reason>
         ensures { result ≡ full_reason self.now number }
     {
-        (!self.is_read_past_others(number)).then_some(Reason::OthersFull)
-    }
-
-    /// Whether one is read though far too much waits for some: for no other, or much of what was
-    /// put out on its own link is unread.
-    fn is_read_past_others(&self, number: usize) -> bool
-        ensures { result ≡ is_read_past_others self.now number }
-    {
-        self.full.is_beside(number) || self.owes_much(number)
-    }
-
-    fn owes_much(&self, number: usize) -> bool
-        ensures { result ≡ owes_much_at self.now number }
-    {
-        match self.by_number.get(number) {
-            Some(talker) => talker.owes_much(),
-            None => false,
-        }
+        (!self.full.is_beside(number)).then_some(Reason::OthersFull)
     }
 
     /// That this client takes nothing, if somebody may wait for it.
@@ -432,7 +413,7 @@ impl Talkers {
         ensures { result ≡ is_due now self.now held.now }
     {
         match held.reason {
-            Reason::OthersFull => self.is_read_past_others(held.who),
+            Reason::OthersFull => self.full.is_beside(held.who),
             Reason::Grown(mark) => !self.is_grown(mark),
             Reason::Filled(mark) => !(held.may_wait(now) && self.is_filled(mark)),
             Reason::Paced => !self.is_paced(held.who, now),
@@ -502,37 +483,6 @@ impl Talkers {
         if let Some(talker) = self.by_number.get_mut(number) {
             talker.name();
             self.full.remove(number);
-        }
-    }
-
-    /// So many bytes were put out on a link that its other end has not said to have read. Where
-    /// that is more than may be, its next read fails, and it is reported.
-    pub fn owe(&mut self, number: usize, bytes: usize)
-        ensures { self.new ≡ link_owes bytes number self.old }
-    {
-        self.note_owed(number, bytes);
-        if bytes > self.marks.most_owed {
-            self.give_up(number);
-        }
-    }
-
-    fn note_owed(&mut self, number: usize, bytes: usize)
-        ensures { self.new ≡ owed_known bytes number self.old }
-    {
-        let Some(talker) = self.by_number.get_mut(number) else {
-            return;
-        };
-        talker.owe(bytes);
-        let is_full = talker.is_over_hard(self.marks);
-        self.set_full(number, is_full);
-    }
-
-    fn give_up(&mut self, number: usize)
-        ensures { self.new ≡ one_given_up number self.old }
-    {
-        if let Some(talker) = self.by_number.get_mut(number) {
-            talker.give_up();
-            self.queue_up(number);
         }
     }
 

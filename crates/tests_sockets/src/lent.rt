@@ -79,10 +79,6 @@ impl<'a> Wire for Lent<'a> {
         self.wire.named(conn)
     }
 
-    fn owes(&mut self, link: u64, bytes: usize) {
-        self.wire.owes(link, bytes)
-    }
-
     fn whence(&self, conn: u64) -> Option<Host> {
         if self.knows_addresses {
             Host::read(address(conn))
