@@ -28,7 +28,7 @@ use Rattle.irc_names.specs.Fold.{same}
 use Rattle.irc_crossing.specs.declared.change.Change.{Change}
 use Rattle.irc_crossing.specs.declared.change.Change.TheVariants.{Come, Rename, Go, Out, Join, Set}
 use Rattle.irc_crossing.specs.declared.setting.Setting.{Setting}
-use Rattle.irc_crossing.specs.declared.setting.Setting.TheVariants.{Mode, Topic}
+use Rattle.irc_crossing.specs.declared.setting.Setting.TheVariants.{Mode, Spelling, Topic}
 use Rattle.irc_crossing.specs.Settings.{is_in, yields}
 
 -- the nickname that somebody has by a change, and had not before; another spelling is no other one
@@ -79,6 +79,7 @@ mode_now ours channel change (Some word) =
 
 abbrev pub setting_now : Change → Setting → Option Setting
 setting_now ours (Topic channel text) = Some (Topic channel text)
+setting_now ours (Spelling channel) = Some (Spelling channel)
 setting_now ours (Mode channel change) =
     if names_member change.letter
     then option_map (λ now. Mode channel now) (mode_now ours channel change change.word)

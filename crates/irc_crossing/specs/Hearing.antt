@@ -38,7 +38,7 @@ use Rattle.irc_crossing.specs.Letters.{letters_left, LettersLeft}
 use Rattle.irc_crossing.specs.Logs.{log_behind, means_as, through}
 use Rattle.irc_crossing.specs.Lines.{change_of, channel_modes, is_for_somebody, is_join_line}
 use Rattle.irc_crossing.specs.Lines.{is_kick_line, is_nick_line, is_part_line, is_topic_line}
-use Rattle.irc_crossing.specs.Lines.{is_same_prefix, logged, word_at}
+use Rattle.irc_crossing.specs.Lines.{is_same_prefix, logged, brings_nobody, word_at}
 
 -- ---- nicknames in a line
 
@@ -57,10 +57,11 @@ words_now_at (suc place) now (word ∷ words) =
 
 -- ---- a line that is no NICK
 
--- whether what a line sets is left: a topic is, where this end has set no greater one
+-- whether what a line sets is left: a topic is, and how a channel is spelled, where this end has set
+-- no greater one
 abbrev pub stays : List Entry → Parsed → Bool
 stays log message =
-    if is_topic_line message
+    if is_topic_line message || brings_nobody message
     then option_map_or (λ change. is_some (through (Some change) log)) (change_of message) true
     else true
 

@@ -9,7 +9,7 @@ use Rattle.irc_link_words.specs.Words.{are_words, is_command, is_marked, told_ch
 use Rattle.irc_crossing.specs.declared.change.Change.{Change}
 use Rattle.irc_crossing.specs.declared.change.Change.TheVariants.{Come, Rename, Go, Out, Join, Set}
 use Rattle.irc_crossing.specs.declared.modes.ChannelModes.{ChannelModes}
-use Rattle.irc_crossing.specs.declared.setting.Setting.TheVariants.{Topic}
+use Rattle.irc_crossing.specs.declared.setting.Setting.TheVariants.{Spelling, Topic}
 use Rattle.irc_crossing.specs.Letters.{set_mode}
 
 -- a word of a line; no bytes where the line has fewer
@@ -49,6 +49,14 @@ is_join_line message = is_command (codes "JOIN") message.command
 abbrev pub is_njoin_line : Parsed → Bool
 is_njoin_line message = is_command (codes "NJOIN") message.command
 
+abbrev pub is_nothing_in : List ℕ → Bool
+is_nothing_in [] = true
+is_nothing_in (byte ∷ bytes) = false
+
+-- an NJOIN that brings nobody
+abbrev pub brings_nobody : Parsed → Bool
+brings_nobody message = is_njoin_line message && is_nothing_in (word_at 1 message)
+
 abbrev pub is_squit_line : Parsed → Bool
 is_squit_line message = is_command (codes "SQUIT") message.command
 
@@ -79,6 +87,14 @@ topic_of channel text =
 abbrev pub join_of : (channel : List ℕ) → (begins : Bool) → Option Change
 join_of channel begins = if is_channel channel then Some (Join channel begins) else None
 
+-- An NJOIN that brings nobody tells how a channel is spelled: `:a.net NJOIN #c :`.
+abbrev pub spelling_of : (channel : List ℕ) → Option Change
+spelling_of channel = if is_channel channel then Some (Set (Spelling channel)) else None
+
+abbrev pub njoin_of : (channel members : List ℕ) → Option Change
+njoin_of channel [] = spelling_of channel
+njoin_of channel (byte ∷ members) = join_of channel false
+
 -- A NICK without a prefix introduces a user, and one with a prefix is a change of its nickname.
 abbrev pub nick_change : Option (List ℕ) → List ℕ → Option Change
 nick_change None word = come_of word
@@ -95,7 +111,7 @@ change_of message =
     else (if is_topic_line message then topic_of (word_at 0 message) (word_at 1 message)
     else (if is_join_line message
     then join_of (unmarked (word_at 0 message)) (is_marked (word_at 0 message))
-    else (if is_njoin_line message then join_of (word_at 0 message) false
+    else (if is_njoin_line message then njoin_of (word_at 0 message) (word_at 1 message)
     else None)))))))
 
 -- ---- MODE of a channel (RFC 2811 section 4)

@@ -4,6 +4,7 @@
 --   a.net   :al TOPIC #c :one      b.net   :bo TOPIC #c :two      both have the topic two
 --   a.net   :al MODE #c -k x       b.net   :bo MODE #c +k y       both have the key y
 --   a.net   :al MODE #c +o bo      b.net   :bea MODE #c -o bo     bo is an operator at both
+--   a.net   :a.net NJOIN #c :      b.net   :b.net NJOIN #C :      both have #c
 -- Where both set the same, it is set once.
 use Rattle.std.specs.Prelude.{ℕ, Bool, true, false, not, ◌&&◌, ◌||◌, Option, Some, None, List}
 use Rattle.std.specs.Prelude.{nat_eq, nat_lt, if◌then◌else◌}
@@ -17,12 +18,13 @@ use Rattle.irc_modes.specs.declared.modes.ModeChange.{ModeChange}
 use Rattle.irc_modes.specs.declared.modes.ModeLetter.{ModeLetter}
 use Rattle.irc_modes.specs.declared.modes.ModeLetter.TheVariants as letter
 use Rattle.irc_crossing.specs.declared.setting.Setting.{Setting}
-use Rattle.irc_crossing.specs.declared.setting.Setting.TheVariants.{Mode, Topic}
+use Rattle.irc_crossing.specs.declared.setting.Setting.TheVariants.{Mode, Spelling, Topic}
 
 -- whether it is set in this channel
 abbrev pub is_in : List ℕ → Setting → Bool
 is_in channel (Mode at change) = same channel at
 is_in channel (Topic at text) = same channel at
+is_in channel (Spelling at) = same channel at
 
 -- ---- one thing
 
@@ -86,4 +88,5 @@ abbrev pub yields : (one other : Setting) → Bool
 yields (Mode channel one) (Mode at other) =
     same channel at && (is_one_place one other && not (is_greater_change one other))
 yields (Topic channel one) (Topic at other) = same channel at && not (is_lt (bytes_cmp other one))
+yields (Spelling one) (Spelling other) = same one other && not (is_lt (bytes_cmp other one))
 yields one other = false

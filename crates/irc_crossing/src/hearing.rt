@@ -23,7 +23,7 @@ ghost use Rattle.irc_crossing.specs.Loops.LettersLeft.{left_of, with_log};
 ghost use Rattle.irc_crossing.specs.declared.hearing.Given.TheVariants.{AsItCame};
 
 use crate::change::Change;
-use crate::lines::{change_of, is_for_somebody, word_at};
+use crate::lines::{brings_nobody, change_of, is_for_somebody, word_at};
 use crate::log::Log;
 use crate::modes::{ChannelModes, LettersLeft, channel_modes};
 use arrayvec::ArrayVec;
@@ -221,11 +221,11 @@ impl Log {
         }
     }
 
-    /// Whether what a line sets is left: a topic.
+    /// Whether what a line sets is left: a topic, or how a channel is spelled.
     fn stays(&self, message: &Message<'_>) -> bool
         ensures { result ≡ stays self.now (parsed message.now) }
     {
-        if !is_command(b"TOPIC", message.command) {
+        if !is_command(b"TOPIC", message.command) && !brings_nobody(message) {
             return true;
         }
         match change_of(message) {

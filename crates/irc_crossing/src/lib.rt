@@ -14,5 +14,6 @@ mod setting;
 
 pub use change::{Change, Standing};
 pub use hearing::Given;
+pub use lines::brings_nobody;
 pub use log::{Entry, Log};
 pub use setting::Setting;

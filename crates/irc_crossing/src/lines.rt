@@ -2,7 +2,8 @@
 ghost use Rattle.std.specs.Prelude.{◌≡◌};
 ghost use Rattle.irc_line.specs.MessageViews.{optional_now, parsed};
 ghost use Rattle.irc_crossing.specs.Lines.{change_of, come_of, go_of, is_for_somebody, join_of};
-ghost use Rattle.irc_crossing.specs.Lines.{nick_change, out_of, rename_of, topic_of, word_at};
+ghost use Rattle.irc_crossing.specs.Lines.{nick_change, njoin_of, out_of, rename_of, spelling_of};
+ghost use Rattle.irc_crossing.specs.Lines.{brings_nobody, topic_of, word_at};
 
 use crate::change::Change;
 use crate::setting::Setting;
@@ -30,7 +31,7 @@ pub(crate) fn change_of(message: &Message<'_>) -> Option<Change>
     } else if is_command(b"JOIN", message.command) {
         join_of(unmarked(first), is_marked(first))
     } else if is_command(b"NJOIN", message.command) {
-        join_of(first, false)
+        njoin_of(first, word_at(message, 1))
     } else {
         None
     }
@@ -90,6 +91,31 @@ fn join_of(channel: &[u8], begins: bool) -> Option<Change>
 {
     let channel = ChannelName::read(channel)?;
     Some(Change::Join { channel, begins })
+}
+
+/// Members come, or a channel is spelled, where a line brings nobody.
+fn njoin_of(channel: &[u8], members: &[u8]) -> Option<Change>
+    ensures { result ≡ njoin_of channel.now members.now }
+{
+    if members.is_empty() {
+        spelling_of(channel)
+    } else {
+        join_of(channel, false)
+    }
+}
+
+fn spelling_of(channel: &[u8]) -> Option<Change>
+    ensures { result ≡ spelling_of channel.now }
+{
+    let channel = ChannelName::read(channel)?;
+    Some(Change::Set(Setting::Spelling { channel }))
+}
+
+/// Whether a line is an NJOIN that brings nobody.
+pub fn brings_nobody(message: &Message<'_>) -> bool
+    ensures { result ≡ brings_nobody (parsed message.now) }
+{
+    is_command(b"NJOIN", message.command) && word_at(message, 1).is_empty()
 }
 
 /// A word of a line; no bytes where the line has fewer.

@@ -27,6 +27,11 @@ pub enum Setting {
         /// The topic; an empty one is none.
         text: Words,
     },
+    /// How the channel is spelled: `:a.net NJOIN #c :`, which brings nobody.
+    Spelling {
+        /// The channel, spelled so.
+        channel: ChannelName,
+    },
 }
 
 impl Setting {
@@ -57,6 +62,10 @@ impl Setting {
                 same(channel.as_bytes(), at.as_bytes())
                     && !theirs.as_bytes().cmp(text.as_bytes()).is_lt()
             }
+            (Setting::Spelling { channel }, Setting::Spelling { channel: theirs }) => {
+                same(channel.as_bytes(), theirs.as_bytes())
+                    && !theirs.as_bytes().cmp(channel.as_bytes()).is_lt()
+            }
             _ => false,
         }
     }
@@ -66,9 +75,9 @@ impl Setting {
         ensures { result ≡ is_in channel.now self.now }
     {
         match self {
-            Setting::Mode { channel: at, .. } | Setting::Topic { channel: at, .. } => {
-                same(channel.as_bytes(), at.as_bytes())
-            }
+            Setting::Mode { channel: at, .. }
+            | Setting::Topic { channel: at, .. }
+            | Setting::Spelling { channel: at } => same(channel.as_bytes(), at.as_bytes()),
         }
     }
 
@@ -84,6 +93,9 @@ impl Setting {
             Setting::Topic { channel, text } => Setting::Topic {
                 channel: channel.copy(),
                 text: text.copy(),
+            },
+            Setting::Spelling { channel } => Setting::Spelling {
+                channel: channel.copy(),
             },
         }
     }

@@ -75,7 +75,7 @@ SetIsMarked =
     (two_links 5 5)
     ≡ line_to 1 (codes "hi") ∷ on 4 (codes "COUNT 5 1 set") ∷ on 4 (codes ":b.net MODE #c +i") ∷ []
 
--- A KICK of a server does not go on a link without counts; 5 is one.
+-- A KICK of a server, and an NJOIN of nobody, do not go on a link without counts; 5 is one.
 abbrev pub not_counting : End
 not_counting = record (counting 0 0) { link = record (counting 0 0).link { offers = false } }
 
@@ -85,7 +85,7 @@ without_counts link = if nat_eq 5 link then Some not_counting else None
 abbrev pub KickIsUnspoken : Type 0
 KickIsUnspoken =
     all_put (by_setting 3) (on 5 (codes ":b.net KICK #c bo :out")
-    ∷ on 5 (codes ":b.net MODE #c +i") ∷ []) without_counts
+    ∷ on 5 (codes ":b.net NJOIN #c :") ∷ on 5 (codes ":b.net MODE #c +i") ∷ []) without_counts
     ≡ on 5 (codes ":b.net MODE #c +i") ∷ []
 
 -- What one end asks the other reads, where both count pieces.

@@ -9,7 +9,7 @@
 --   a count of more than was put out             the link is closed, and the server told so
 use Rattle.std.specs.Prelude.{◌≡◌, ℕ, Bool, true, false, Option, Some, None, Result, Ok, Err, List}
 use Rattle.std.specs.Prelude.{[], ◌∷◌, ◌++◌, is_some, map, unwrap_or, if◌then◌else◌}
-use Rattle.std.specs.Option.{option_and_then}
+use Rattle.std.specs.Option.{option_and_then, option_map}
 use Rattle.irc_line.specs.Messages.{text}
 use Rattle.irc_line.specs.Reading.{read_of}
 use Rattle.irc_batch.specs.declared.close_reason.CloseReason.{CloseReason}
@@ -24,7 +24,10 @@ use Rattle.irc_crossing.specs.declared.hearing.Given.{Given}
 use Rattle.irc_crossing.specs.declared.hearing.Given.TheVariants.{AsItCame, Changed, LeftOut}
 use Rattle.irc_crossing.specs.declared.hearing.Given.TheVariants.{Brings, Kills}
 use Rattle.irc_crossing.specs.declared.hearing.Given.TheVariants.{Sets as SetsLine}
+use Rattle.irc_channels.specs.declared.channel.Channel.{Channel}
 use Rattle.irc_channels.specs.declared.flags.Flags.{Flags}
+use Rattle.irc_names.specs.Fold.{key}
+use Rattle.irc_room.specs.Readers.{channel_at}
 use Rattle.irc_crossing.specs.Asking.{asked}
 use Rattle.irc_crossing.specs.Hearing.{given}
 use Rattle.irc_stage.specs.View.{View}
@@ -243,6 +246,25 @@ told_of (Some view) channel = map text (channel_parts view.room view.routes no_l
 abbrev pub by_telling : Cause
 by_telling = record { arrival = None; mark = Some Set; begins = false }
 
+-- First of all how it is spelled: who comes to it by the lines behind that may be there already.
+--   a.net has       #c, which al has begun, who is killed since, and in it bo
+--   b.net has       #C, which bo has begun, and writes    TELL #C    upon :al JOIN #c\7o
+--   a.net writes    :a.net NJOIN #c :, and :a.net NJOIN #c :bo
+abbrev pub spelled_of : Option View → (channel : List ℕ) → Option (List ℕ)
+spelled_of None channel = None
+spelled_of (Some view) channel =
+    option_map (λ (there : Channel). text (njoin_parts view.routes.name there.name []))
+    (channel_at view.room (key channel))
+
+abbrev pub spelling : ℕ → Option (List ℕ) → State → State
+spelling link None state = state
+spelling link (Some line) state = puts_out by_telling link (line ∷ []) state
+
+abbrev pub telling : ℕ → (channel : List ℕ) → State → State
+telling link channel state =
+    puts_out by_telling link (told_of state.layer.server channel)
+    (spelling link (spelled_of state.layer.server channel) state)
+
 -- ---- a line of a piece
 
 -- one that asks of no channel: what it brings decides how it is given, and whether this end asks
@@ -261,8 +283,7 @@ pub record HearsOther (mark : Option Mark) (link : ℕ) (line : List ℕ) (old n
 abbrev pub HearsBy : (channel : Option (List ℕ)) → Option Mark → ℕ → List ℕ → State → State
     → Type 0
 HearsBy None mark link line old new = HearsOther mark link line old new
-HearsBy (Some channel) mark link line old new =
-    new ≡ puts_out by_telling link (told_of old.layer.server channel) old
+HearsBy (Some channel) mark link line old new = new ≡ telling link channel old
 
 abbrev pub HearsOne : Option Mark → ℕ → List ℕ → State → State → Type 0
 HearsOne mark link line old new =

@@ -15,8 +15,8 @@
 -- What a server does as it is told to, for somebody who is gone, is marked:
 --     to c.net    :b.net MODE #c +i          a.net writes    COUNT 5 1 set
 --                                                            :b.net MODE #c +i
--- On a link that does not count such a MODE or TOPIC goes alone, and raises there; a KICK does not
--- go.
+-- On a link that does not count such a MODE or TOPIC goes alone, and raises there; a KICK and an
+-- NJOIN of nobody do not go.
 use Rattle.std.specs.Prelude.{ℕ, suc, ◌-◌, Bool, false, ◌&&◌, is_some, Option, Some, None, Result}
 use Rattle.std.specs.Prelude.{Ok, Err, List, [], ◌∷◌, ◌++◌, codes, length, take, min, nat_eq}
 use Rattle.std.specs.Prelude.{if◌then◌else◌}
@@ -35,7 +35,7 @@ use Rattle.irc_link_end.specs.declared.greeting.WayOut.{WayOut}
 use Rattle.irc_link_end.specs.declared.greeting.WayOut.TheVariants.{Plain, WithWord, InPiece}
 use Rattle.irc_link_words.specs.Words.{is_command}
 use Rattle.irc_crossing.specs.Hearing.{logged_of}
-use Rattle.irc_crossing.specs.Lines.{is_kick_line, is_kill_line}
+use Rattle.irc_crossing.specs.Lines.{brings_nobody, is_kick_line, is_kill_line}
 use Rattle.irc_crossing.specs.Logs.{put_out}
 use Rattle.irc_layer.specs.declared.end.Cause.{Cause}
 use Rattle.irc_layer.specs.declared.end.End.{End}
@@ -57,13 +57,14 @@ is_echo cause link line =
     option_map_or (λ came. nat_eq came link) cause.arrival false && is_kill_read (read_of line)
 
 -- Whether a line is one that a link without counts has no place for: a KICK of a server, by which
--- it sets what somebody did who is gone.
-abbrev pub is_kick_read : Result Parsed LineFault → Bool
-is_kick_read (Ok message) = is_kick_line message
-is_kick_read (Err fault) = false
+-- it sets what somebody did who is gone, and an NJOIN of nobody, by which it tells how a channel is
+-- spelled.
+abbrev pub is_unknown : Result Parsed LineFault → Bool
+is_unknown (Ok message) = is_kick_line message || brings_nobody message
+is_unknown (Err fault) = false
 
 abbrev pub is_unspoken : Cause → List ℕ → Bool
-is_unspoken cause line = is_some cause.mark && is_kick_read (read_of line)
+is_unspoken cause line = is_some cause.mark && is_unknown (read_of line)
 
 -- whether a line tells that a server is lost
 abbrev pub is_squit_read : Result Parsed LineFault → Bool

@@ -9,13 +9,13 @@ ghost use Rattle.irc_layer.specs.Asking.{asked_of};
 ghost use Rattle.irc_layer.specs.Ends.{end_hearing, heard_by, is_full, is_plain, met_if, new_end};
 ghost use Rattle.irc_layer.specs.Ends.{with_log_after};
 ghost use Rattle.irc_layer.specs.Putting.{behind_line, behind_piece, body, count_at, count_before};
-ghost use Rattle.irc_layer.specs.Putting.{count_out, is_echo, is_kick_read, is_kill_read, is_squit};
+ghost use Rattle.irc_layer.specs.Putting.{count_out, is_echo, is_kill_read, is_squit, is_unknown};
 ghost use Rattle.irc_layer.specs.Putting.{is_unspoken, line_out};
 ghost use Rattle.irc_layer.specs.Putting.{piece_out, with_begun, with_count_out};
 
 use crate::asking::asked_by;
 use irc_batch::{Batch, CloseReason};
-use irc_crossing::{Given, Log};
+use irc_crossing::{Given, Log, brings_nobody};
 use irc_line::{Line, parse};
 use irc_link_end::{LinkEnd, WayOut, with_word};
 use irc_link_words::is_command;
@@ -279,14 +279,14 @@ fn is_kill(line: &[u8]) -> bool
 fn is_unspoken(cause: Cause, line: &[u8]) -> bool
     ensures { result ≡ is_unspoken cause line.now }
 {
-    cause.mark.is_some() && is_kick(line)
+    cause.mark.is_some() && is_unknown(line)
 }
 
-fn is_kick(line: &[u8]) -> bool
-    ensures { result ≡ is_kick_read (read_of line.now) }
+fn is_unknown(line: &[u8]) -> bool
+    ensures { result ≡ is_unknown (read_of line.now) }
 {
     match parse(line) {
-        Ok(message) => is_command(b"KICK", message.command),
+        Ok(message) => is_command(b"KICK", message.command) || brings_nobody(&message),
         Err(_) => false,
     }
 }

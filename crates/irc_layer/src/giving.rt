@@ -1,16 +1,18 @@
 //! What comes of a line of a piece: what the server is given for it, and what the other end is
 //! asked or told.
 ghost use Rattle.std.specs.Prelude.{◌≡◌, ◌++◌, is_some, false, map, None, IfOk, OnOk};
-ghost use Rattle.std.specs.Option.{option_and_then, option_copied};
+ghost use Rattle.std.specs.Option.{option_and_then, option_copied, option_map};
 ghost use Rattle.irc_batch.specs.Batches.{line_on};
 ghost use Rattle.irc_burst_lines.specs.Loops.Telling.{lines_now, told_member};
 ghost use Rattle.irc_engine.specs.Machines.{is_out_of_memory, IsStillConnected};
 ghost use Rattle.irc_engine.specs.Noting.{far_of};
 ghost use Rattle.irc_layer.specs.Asking.{asked_of};
 ghost use Rattle.irc_layer.specs.Ends.{change_end, end_at, met_if, with_log_after};
-ghost use Rattle.irc_layer.specs.Layers.{asked_at, asking, by_telling, given_at, peer_of, puts_out};
-ghost use Rattle.irc_layer.specs.Layers.{state_of, told_of, BringsOne, Does, Gives, GivesAs};
+ghost use Rattle.irc_layer.specs.Layers.{asked_at, asking, given_at, peer_of, puts_out};
+ghost use Rattle.irc_layer.specs.Layers.{spelled_of, spelling, state_of, telling, told_of};
+ghost use Rattle.irc_layer.specs.Layers.{BringsOne, Does, Gives, GivesAs};
 ghost use Rattle.irc_layer.specs.Layers.{GivesKill, GivesKills, HearsOne, HearsOther, Sets};
+ghost use Rattle.irc_layer.specs.Loops.Texts.{bytes_of};
 ghost use Rattle.irc_layer.specs.Putting.{body};
 
 use crate::asking::tell_text;
@@ -158,20 +160,35 @@ impl Layer {
         }
     }
 
-    /// The other end is told of a channel.
+    /// The other end is told of a channel: how it is spelled, and what it has.
     fn tell_of(
         &mut self,
         link: u64,
         channel: &ChannelName,
         out: &mut Batch,
     ) -> Result<(), AllocError>
-        ensures tells { OnOk result (state_of self.new out.new ≡ puts_out by_telling link
-            (told_of self.old.server channel.now) (state_of self.old out.old)) }
+        ensures tells { OnOk result (state_of self.new out.new
+            ≡ telling link channel.now (state_of self.old out.old)) }
         ensures connected { OnOk result (IsStillConnected self.old.server out.old.outs
             self.new.server out.new.outs) }
     {
         let lines = told_of(self.alloc, &self.server, channel)?;
+        self.spell(link, spelled_of(&self.server, channel), out)?;
         self.put_out(BY_TELLING, link, lines.as_slice(), out)
+    }
+
+    /// The other end is told how a channel is spelled, if it is there.
+    fn spell(&mut self, link: u64, line: Option<Text>, out: &mut Batch) -> Result<(), AllocError>
+        ensures spells { OnOk result (state_of self.new out.new
+            ≡ spelling link (option_map bytes_of line) (state_of self.old out.old)) }
+        ensures server { self.new.server ≡ self.old.server }
+        ensures connected { OnOk result (IsStillConnected self.old.server out.old.outs
+            self.new.server out.new.outs) }
+    {
+        match line {
+            Some(line) => self.put_out(BY_TELLING, link, &[line], out),
+            None => Ok(()),
+        }
     }
 
     /// The layer puts out lines of its own on a link.
@@ -340,6 +357,15 @@ fn asks_at(ends: &Ends, link: u64, line: &[u8], peer: &[u8], is_held: bool) -> O
     ensures { result ≡ asked_at (end_at ends.now link) peer.now is_held line.now }
 {
     ends.get(&link)?.asks(line, peer, is_held)
+}
+
+/// The line that tells how a channel is spelled, with its CR LF: an NJOIN of nobody.
+fn spelled_of(server: &Server, channel: &ChannelName) -> Option<Text>
+    ensures { option_map bytes_of result ≡ spelled_of server.now channel.now }
+{
+    let channel = server.room()?.channel(channel.as_bytes())?;
+    let own = server.routes()?.name();
+    Some(njoin_text(own, &channel.name, &[]))
 }
 
 /// What the other end of a link is told of a channel: all of it, whoever of it is left there.
