@@ -6,9 +6,9 @@ use Rattle.irc_line.specs.Messages.{line_text}
 use Rattle.irc_line.specs.Reading.{read_of}
 use Rattle.irc_names.specs.Fold.{fold, fold_table}
 use Rattle.irc_modes.specs.Modes.{is_limit}
-use Rattle.irc_names.specs.Names.{is_ban_mask, is_channel, is_key, is_nick}
+use Rattle.irc_names.specs.Names.{is_ban_mask, is_channel, is_key, is_nick, is_server}
 use Rattle.irc_crossing.specs.Examples.{BegunIsAsked, BegunIsOne, BegunTwiceIsOne, EndedIsAsked}
-use Rattle.irc_crossing.specs.Examples.{NextIsUnset}
+use Rattle.irc_crossing.specs.Examples.{NextIsUnset, RaisesBehindOut, SpellingStays}
 use Rattle.irc_crossing.specs.Examples.{ComerIsBrought, OthersAreNotAsked}
 use Rattle.irc_crossing.specs.Examples.{GoneIsLeftOut, InviteIsLeftOut, KeyStays, KeyYields}
 use Rattle.irc_crossing.specs.Examples.{KickIsFollowed, KickIsSet, ModeIsSet, OperatorIsBrought}
@@ -132,6 +132,14 @@ begun_is_one = refl
 pub begun_twice_is_one : BegunTwiceIsOne
 unfolding read_of is_nick is_channel fold fold_table line_text cut
 begun_twice_is_one = refl
+
+pub spelling_stays : SpellingStays
+unfolding read_of is_nick is_channel fold fold_table
+spelling_stays = record { lesser = refl; greater = refl; next = refl }
+
+pub raises_behind_out : RaisesBehindOut
+unfolding read_of is_nick is_channel is_server fold fold_table
+raises_behind_out = record { modes = refl; topic = refl; elsewhere = refl; user = refl }
 
 pub next_is_unset : NextIsUnset
 unfolding read_of is_nick is_channel fold fold_table line_text cut

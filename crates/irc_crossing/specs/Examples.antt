@@ -5,6 +5,7 @@ use Rattle.irc_line.specs.Bytes.{crlf}
 use Rattle.irc_crossing.specs.Asking.{asked}
 use Rattle.irc_crossing.specs.Hearing.{given, log_after, logged_of}
 use Rattle.irc_crossing.specs.Logs.{put_out, unread}
+use Rattle.irc_crossing.specs.Raising.{raises}
 use Rattle.irc_crossing.specs.declared.change.Change.TheVariants.{Go, Rename}
 use Rattle.irc_crossing.specs.declared.hearing.Given.{Given}
 use Rattle.irc_crossing.specs.declared.hearing.Given.TheVariants.{AsItCame, Brings, Changed}
@@ -155,6 +156,20 @@ begun_anew = ended ++ begun (codes ":ann JOIN #c") ∷ []
 abbrev pub NextIsUnset : Type 0
 NextIsUnset =
     given (log_of 1 begun_anew []) (codes "b.net") true (codes ":bo MODE #c +i") ≡ LeftOut
+
+-- how a channel is spelled: the greater stays, and nothing in the next of its name
+pub record SpellingStays : Type 0 where
+  pub lesser : given_after (codes ":a.net NJOIN #c :") (codes ":b.net NJOIN #C :") ≡ LeftOut
+  pub greater : given_after (codes ":a.net NJOIN #C :") (codes ":b.net NJOIN #c :") ≡ AsItCame
+  pub next : given (log_of 1 begun_anew []) (codes "b.net") true (codes ":b.net NJOIN #c :")
+      ≡ LeftOut
+
+-- what a server raises counts, though whoever it came with was taken out here
+pub record RaisesBehindOut : Type 0 where
+  pub modes : raises (log_of 1 ended []) (codes ":b.net MODE #c +k x") ≡ true
+  pub topic : raises (log_of 1 ended []) (codes ":b.net TOPIC #c :hello") ≡ true
+  pub elsewhere : raises (log_of 1 ended []) (codes ":b.net MODE #d +k x") ≡ false
+  pub user : raises (log_of 1 ended []) (codes ":bea MODE #c +k x") ≡ false
 
 -- who comes to one that has ended here brings it, by the greatest of its spellings
 pub record ComerIsBrought : Type 0 where

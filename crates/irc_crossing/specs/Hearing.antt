@@ -57,8 +57,8 @@ words_now_at (suc place) now (word ∷ words) =
 
 -- ---- a line that is no NICK
 
--- whether what a line sets is left: a topic is, and how a channel is spelled, where this end has set
--- no greater one
+-- whether what a line sets is left: a topic is, and how a channel is spelled, where this end has
+-- set no greater one
 abbrev pub stays : List Entry → Parsed → Bool
 stays log message =
     if is_topic_line message || brings_nobody message

@@ -7,4 +7,5 @@ pub mod Letters
 pub mod Lines
 pub mod Logs
 pub mod Loops
+pub mod Raising
 pub mod Settings

@@ -382,7 +382,7 @@ fn are_same(words: &[&[u8]], others: &[&[u8]]) -> bool
 }
 
 /// A line from this one, with these parameters.
-fn written_with(prefix: Option<&[u8]>, message: &Message<'_>, words: &[&[u8]]) -> Text
+pub(crate) fn written_with(prefix: Option<&[u8]>, message: &Message<'_>, words: &[&[u8]]) -> Text
     ensures { result.items ≡ text (written_with (optional_now prefix.entry) (parsed message.now)
         (words_now words.now)) }
 {

@@ -3,6 +3,7 @@
 //! may cite it.
 ghost use Rattle.irc_crossing.specs.Examples.{BegunIsAsked, BegunIsOne, BegunTwiceIsOne};
 ghost use Rattle.irc_crossing.specs.Examples.{EndedIsAsked, NextIsUnset};
+ghost use Rattle.irc_crossing.specs.Examples.{RaisesBehindOut, SpellingStays};
 ghost use Rattle.irc_crossing.specs.Examples.{ComerIsBrought, OthersAreNotAsked};
 ghost use Rattle.irc_crossing.specs.Examples.{GoneIsLeftOut, InviteIsLeftOut, KeyStays};
 ghost use Rattle.irc_crossing.specs.Examples.{KeyYields, KickIsSet, ModeIsSet, OperatorIsBrought};
@@ -95,6 +96,8 @@ pub fn ended_channels()
     ensures begun { BegunIsAsked }
     ensures others { OthersAreNotAsked }
     ensures brought { ComerIsBrought }
+    ensures spelled { SpellingStays }
+    ensures raised { RaisesBehindOut }
 {}
 
 /// What somebody does who is gone.

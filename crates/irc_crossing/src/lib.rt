@@ -10,10 +10,12 @@ pub mod laws;
 mod lines;
 mod log;
 mod modes;
+mod raising;
 mod setting;
 
 pub use change::{Change, Standing};
 pub use hearing::Given;
 pub use lines::brings_nobody;
 pub use log::{Entry, Log};
+pub use raising::raised;
 pub use setting::Setting;

@@ -5,6 +5,7 @@ ghost use Rattle.irc_line.specs.MessageViews.{parsed};
 ghost use Rattle.irc_crossing.specs.Hearing.{greater_by, logged_of, spelled_in};
 ghost use Rattle.irc_crossing.specs.Asking.{has_begun, has_taken_out, has_told_of};
 ghost use Rattle.irc_crossing.specs.Letters.{set_mode};
+ghost use Rattle.irc_crossing.specs.Raising.{has_taken_from};
 ghost use Rattle.irc_crossing.specs.Lines.{logged};
 ghost use Rattle.irc_crossing.specs.Logs.{crossed_if, log_behind, means, means_in, member_behind};
 ghost use Rattle.irc_crossing.specs.Loops.Comers.{are_comers};
@@ -14,6 +15,7 @@ use crate::asking::{begins_by, takes_out, tells_of};
 use crate::change::Change;
 use crate::lines::change_of;
 use crate::modes::{ChannelModes, channel_modes, set_mode};
+use crate::raising::takes_from;
 use irc_line::{Message, parse};
 use irc_link_words::is_command;
 use irc_names::{ChannelName, same};
@@ -240,6 +242,15 @@ impl Log {
         self.entries
             .iter()
             .any(|entry| takes_out(entry.change.as_ref()))
+    }
+
+    /// Whether it may have taken somebody out of a channel.
+    pub(crate) fn has_taken_from(&self, channel: &[u8]) -> bool
+        ensures { result ≡ has_taken_from self.now channel.now }
+    {
+        self.entries
+            .iter()
+            .any(|entry| takes_from(channel, entry.change.as_ref()))
     }
 
     /// The greatest spelling of a channel's name, of this one and those that were put out.

@@ -30,6 +30,7 @@ use Rattle.irc_names.specs.Fold.{key}
 use Rattle.irc_room.specs.Readers.{channel_at}
 use Rattle.irc_crossing.specs.Asking.{asked}
 use Rattle.irc_crossing.specs.Hearing.{given}
+use Rattle.irc_crossing.specs.Raising.{raised, raises}
 use Rattle.irc_stage.specs.View.{View}
 use Rattle.irc_server.specs.declared.event.Event.{Event}
 use Rattle.irc_server.specs.declared.event.Event.TheVariants.{Connect, Line, Gone, LinkUp, LinkLine}
@@ -158,10 +159,20 @@ pub data Sets (link : ℕ) (line : List ℕ) (old new : State) : Type 0 where
       → IsSetBy old.layer.server link line [] (Err fault) old.layer.server [] → new ≡ old
       → Sets link line old new
 
--- a line that is marked is set, another is given
-abbrev pub Does : Option Mark → (begins : Bool) → ℕ → List ℕ → State → State → Type 0
-Does None begins link line old new = Gives begins link line old new
-Does (Some Set) begins link line old new = Sets link line old new
+-- what of a line raises something in the server's channel is set, if anything does
+abbrev pub raised_at : Option View → List ℕ → Option (List ℕ)
+raised_at None line = None
+raised_at (Some view) line = raised view.room (read_of line)
+
+abbrev pub SetsIf : ℕ → Option (List ℕ) → State → State → Type 0
+SetsIf link None old new = new ≡ old
+SetsIf link (Some text) old new = Sets link (body text) old new
+
+-- a line that is marked is set, of one that raises what it raises is, and another is given
+abbrev pub Does : Option Mark → (raises begins : Bool) → ℕ → List ℕ → State → State → Type 0
+Does None false begins link line old new = Gives begins link line old new
+Does None true begins link line old new = SetsIf link (raised_at old.layer.server line) old new
+Does (Some Set) raises begins link line old new = Sets link line old new
 
 -- A user comes to a channel, as the server at the other end tells it.
 abbrev pub member_by : List ℕ → (member : List ℕ × Flags) → (channel : List ℕ) → List ℕ
@@ -199,15 +210,23 @@ pub record GivesKills (link : ℕ) (nick : List ℕ) (other : Option (List ℕ))
   pub first : GivesKill link nick old between
   pub second : GivesKillIf link other between new
 
-abbrev pub GivesAs : Given → Option Mark → (begins : Bool) → ℕ → List ℕ → State → State → Type 0
-GivesAs AsItCame mark begins link line old new = Does mark begins link line old new
-GivesAs (Changed text) mark begins link line old new =
-    Does mark begins link (body text.items) old new
-GivesAs LeftOut mark begins link line old new = new ≡ old
-GivesAs (Kills nick other) mark begins link line old new = GivesKills link nick other old new
-GivesAs (Brings nick channel op) mark begins link line old new =
+abbrev pub GivesAs : Given → Option Mark → (raises begins : Bool) → ℕ → List ℕ → State → State
+    → Type 0
+GivesAs AsItCame mark raises begins link line old new = Does mark raises begins link line old new
+GivesAs (Changed text) mark raises begins link line old new =
+    Does mark raises begins link (body text.items) old new
+GivesAs LeftOut mark raises begins link line old new = new ≡ old
+GivesAs (Kills nick other) mark raises begins link line old new =
+    GivesKills link nick other old new
+GivesAs (Brings nick channel op) mark raises begins link line old new =
     BringsOne begins link (nick, record { op = op; voice = false }) channel old new
-GivesAs (SetsLine text) mark begins link line old new = Sets link (body text.items) old new
+GivesAs (SetsLine text) mark raises begins link line old new =
+    Sets link (body text.items) old new
+
+-- whether a line raises something where nobody of the other side may be left
+abbrev pub raises_at : Option End → List ℕ → Bool
+raises_at None line = false
+raises_at (Some end) line = raises end.log line
 
 -- what the server is given for a line of a piece; nothing where the link was closed before it
 abbrev pub given_at : Option End → (peer : List ℕ) → Bool → List ℕ → Given
@@ -275,7 +294,8 @@ pub record HearsOther (mark : Option Mark) (link : ℕ) (line : List ℕ) (old n
     : Type 0 where
   pub between : State
   pub is_given : GivesAs (given_at (old.layer.ends link) (peer_of old.layer.server link)
-      (is_held (brings old link line)) line) mark (is_new (brings old link line)) link line
+      (is_held (brings old link line)) line) mark (raises_at (old.layer.ends link) line)
+      (is_new (brings old link line)) link line
       (with_ends (change_end link (with_log_after line) old.layer.ends) old) between
   pub new_is : new ≡ asking (asked_at (old.layer.ends link) (peer_of old.layer.server link)
       (is_held (brings old link line)) line) link between

@@ -5,6 +5,7 @@ ghost use Rattle.irc_line.specs.Limits.{max_text};
 ghost use Rattle.irc_line.specs.Reading.{read_of};
 ghost use Rattle.irc_crossing.specs.Asking.{asked};
 ghost use Rattle.irc_crossing.specs.Hearing.{given};
+ghost use Rattle.irc_crossing.specs.Raising.{raises};
 ghost use Rattle.irc_layer.specs.Asking.{asked_of};
 ghost use Rattle.irc_layer.specs.Ends.{end_hearing, heard_by, is_full, is_plain, met_if, new_end};
 ghost use Rattle.irc_layer.specs.Ends.{with_log_after};
@@ -114,6 +115,14 @@ impl End {
         ensures after { OnOk result (self.new ≡ with_log_after line.now self.old) }
     {
         self.log.hear(line, peer, is_held)
+    }
+
+    /// Whether a line raises something where nobody of the other side may be left; see
+    /// [`Log::raises`].
+    pub fn raises(&self, line: &[u8]) -> bool
+        ensures { result ≡ raises self.now.log line.now }
+    {
+        self.log.raises(line)
     }
 
     /// The channel that the other end is asked to tell of upon a line; see [`Log::asked`].

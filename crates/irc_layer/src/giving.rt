@@ -9,10 +9,11 @@ ghost use Rattle.irc_engine.specs.Noting.{far_of};
 ghost use Rattle.irc_layer.specs.Asking.{asked_of};
 ghost use Rattle.irc_layer.specs.Ends.{change_end, end_at, met_if, with_log_after};
 ghost use Rattle.irc_layer.specs.Layers.{asked_at, asking, given_at, peer_of, puts_out};
+ghost use Rattle.irc_layer.specs.Layers.{raised_at, raises_at};
 ghost use Rattle.irc_layer.specs.Layers.{spelled_of, spelling, state_of, telling, told_of};
 ghost use Rattle.irc_layer.specs.Layers.{BringsOne, Does, Gives, GivesAs};
-ghost use Rattle.irc_layer.specs.Layers.{GivesKill, GivesKills, HearsOne, HearsOther, Sets};
-ghost use Rattle.irc_layer.specs.Loops.Texts.{bytes_of};
+ghost use Rattle.irc_layer.specs.Layers.{GivesKill, GivesKills, HearsOne, HearsOther, Sets, SetsIf};
+ghost use Rattle.irc_crossing.specs.Loops.Texts.{bytes_of};
 ghost use Rattle.irc_layer.specs.Putting.{body};
 
 use crate::asking::tell_text;
@@ -23,7 +24,7 @@ use crate::putting::{Ends, put_all};
 use irc_batch::Batch;
 use irc_burst_lines::{channel_burst, kill_text, njoin_text};
 use irc_channels::Flags;
-use irc_crossing::Given;
+use irc_crossing::{Given, raised};
 use irc_line::{Line, Text};
 use irc_link_reader::NewMember;
 use irc_names::{ChannelName, Nick, ServerName, copied};
@@ -52,17 +53,20 @@ struct Arrived {
     mark: Option<Mark>,
     /// Whether a channel begins by it.
     begins: bool,
+    /// Whether it raises something where nobody of the other side may be left.
+    raises: bool,
 }
 
 impl Arrived {
     /// One by which no channel begins, on a link.
     fn on(link: u64) -> Self
-        ensures { result ≡ record { link = link; mark = None; begins = false } }
+        ensures { result ≡ record { link = link; mark = None; begins = false; raises = false } }
     {
         Arrived {
             link,
             mark: None,
             begins: false,
+            raises: false,
         }
     }
 }
@@ -103,12 +107,14 @@ impl Layer {
     {
         let it = brought_by(&self.server, link, line.as_slice());
         let peer = peer_of(&self.server, link);
+        let raises = raises_at(&self.ends, link, line.as_slice());
         let channel = asks_at(&self.ends, link, line.as_slice(), peer, it.is_held());
         let given = give_at(&mut self.ends, link, line.as_slice(), peer, it.is_held())?;
         let from = Arrived {
             link,
             mark,
             begins: it.is_new(),
+            raises,
         };
         self.do_given(from, given, line, out)?;
         self.ask_of(link, channel, out)
@@ -122,8 +128,8 @@ impl Layer {
         line: Line,
         out: &mut Batch,
     ) -> Result<(), AllocError>
-        ensures heard { OnOk result (GivesAs given from.mark from.begins from.link line.items
-            (state_of self.old out.old) (state_of self.new out.new)) }
+        ensures heard { OnOk result (GivesAs given from.mark from.raises from.begins from.link
+            line.items (state_of self.old out.old) (state_of self.new out.new)) }
         ensures connected { OnOk result (IsStillConnected self.old.server out.old.outs
             self.new.server out.new.outs) }
     {
@@ -209,17 +215,32 @@ impl Layer {
         put_all(&mut self.ends, cause, &mut self.held, out)
     }
 
-    /// The server does what a line says: one that is marked is set, another is given.
+    /// The server does what a line says: one that is marked is set, of one that raises what it
+    /// raises is, and another is given.
     fn do_line(&mut self, from: Arrived, line: Line, out: &mut Batch) -> Result<(), AllocError>
         ensures heard { OnOk result
-            (Does from.mark from.begins from.link line.items (state_of self.old out.old)
-            (state_of self.new out.new)) }
+            (Does from.mark from.raises from.begins from.link line.items
+            (state_of self.old out.old) (state_of self.new out.new)) }
         ensures connected { OnOk result (IsStillConnected self.old.server out.old.outs
             self.new.server out.new.outs) }
     {
         match from.mark {
             Some(Mark::Set) => self.set(from.link, line, out),
+            None if from.raises => self.raise(from.link, &line, out),
             None => self.give(from, line, out),
+        }
+    }
+
+    /// The server is told to set what a line raises, if it raises anything.
+    fn raise(&mut self, link: u64, line: &Line, out: &mut Batch) -> Result<(), AllocError>
+        ensures heard { OnOk result (SetsIf link (raised_at self.old.server line.now.items)
+            (state_of self.old out.old) (state_of self.new out.new)) }
+        ensures connected { OnOk result (IsStillConnected self.old.server out.old.outs
+            self.new.server out.new.outs) }
+    {
+        match raised_at(self.alloc, &self.server, line.as_slice())? {
+            Some(text) => self.set(link, line_of(&text), out),
+            None => Ok(()),
         }
     }
 
@@ -394,6 +415,26 @@ fn hold_all(held: &mut Batch, link: u64, lines: &[Text]) -> Result<(), AllocErro
         held.put_on(link, line.as_slice())?;
     }
     Ok(())
+}
+
+/// Whether a line raises something, as an end has it, where nobody of the other side may be left.
+fn raises_at(ends: &Ends, link: u64, line: &[u8]) -> bool
+    ensures { result ≡ raises_at (end_at ends.now link) line.now }
+{
+    match ends.get(&link) {
+        Some(end) => end.raises(line),
+        None => false,
+    }
+}
+
+/// What of a line raises something in the server's channel, as a line.
+fn raised_at(alloc: Global, server: &Server, line: &[u8]) -> Result<Option<Text>, AllocError>
+    ensures { IfOk result (λ text. option_map bytes_of text ≡ raised_at server.now line.now) }
+{
+    match server.room() {
+        Some(room) => raised(alloc, room, line),
+        None => Ok(None),
+    }
 }
 
 /// What the server is given for a line; nothing where the link has no end.
