@@ -22,7 +22,7 @@ use Rattle.irc_crossing.specs.declared.change.Change.{Change}
 use Rattle.irc_crossing.specs.declared.change.Change.TheVariants.{Come, Rename, Go, Out, Join, Set}
 use Rattle.irc_crossing.specs.declared.log.Entry.{Entry}
 use Rattle.irc_crossing.specs.declared.modes.ChannelModes.{ChannelModes}
-use Rattle.irc_crossing.specs.declared.setting.Setting.TheVariants.{Mode, Spelling, Topic}
+use Rattle.irc_crossing.specs.declared.setting.Setting.TheVariants.{Topic}
 use Rattle.irc_crossing.specs.Hearing.{written_with}
 use Rattle.irc_crossing.specs.Lines.{change_of, channel_modes, is_mode_line, is_topic_line}
 use Rattle.irc_crossing.specs.Lines.{word_at}

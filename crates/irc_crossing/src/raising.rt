@@ -110,8 +110,8 @@ fn raised_modes(
 fn raised_topic(room: &Room, message: &Message<'_>) -> Option<Text>
     ensures { option_map bytes_of result ≡ raised_topic room.now.room (parsed message.now) }
 {
-    match change_of(message)? {
-        Change::Set(Setting::Topic { channel, text }) if is_greater(room, &channel, &text) => {
+    match &change_of(message)? {
+        Change::Set(Setting::Topic { channel, text }) if is_greater(room, channel, text) => {
             let words = message.params.as_slice();
             Some(written_with(message.prefix, message, words))
         }
