@@ -1,6 +1,6 @@
 -- Two settings, each done first at one end.
 use Rattle.std.proofs.Common.{◌≡◌, ℕ, Bool, true, false, not, ◌||◌, ◌&&◌, Option, Some, None, List}
-use Rattle.std.proofs.Common.{◌∙◌, ap, refl, sym, nat_eq, nat_lt, arith, if◌then◌else◌}
+use Rattle.std.proofs.Common.{◌∙◌, ap, refl, sym, nat_eq, arith, if◌then◌else◌}
 use Rattle.std.proofs.Common.{is_some, unwrap_or, true≢false}
 use Rattle.std.proofs.lemmas.Bool.{and_parts, eq-eqb, eqb-true, ltb-true, ltb-false}
 use Rattle.std.specs.declared.cmp.Ordering.{Ordering}
@@ -20,7 +20,7 @@ use Rattle.irc_crossing.specs.declared.setting.Setting.{Setting}
 use Rattle.irc_crossing.specs.declared.setting.Setting.TheVariants.{Mode, Spelling, Topic}
 use Rattle.irc_crossing.specs.BothSet.{AreAlike, AreAlikeModes, AreAlikeWords, IsWritten}
 use Rattle.irc_crossing.specs.BothSet.{OneThingIsEven, OthersPass, SettingsAgree}
-use Rattle.irc_crossing.specs.BothSet.{are_of_one_thing, is_by_its_word, staying}
+use Rattle.irc_crossing.specs.BothSet.{are_of_one_thing, needs_word, staying}
 use Rattle.irc_crossing.specs.Settings.{are_greater_bytes, are_same_words, is_above, is_by_word}
 use Rattle.irc_crossing.specs.Settings.{is_greater_change, is_greater_limit, is_greater_set}
 use Rattle.irc_crossing.specs.Settings.{is_one_place, is_secret, limit_of, place_of, yields}
@@ -138,8 +138,8 @@ place_even one other = by (nat_eq (place_byte one) (place_byte other)) refl
         || are_same_words other.word one.word)) (sym turns ∙ is))
     by true is =
         let marks : is_by_word one.letter ≡ is_by_word other.letter =
-            by_word_of_place one.letter ∙ ap is_by_word (places one other is)
-            ∙ sym (by_word_of_place other.letter) in
+        by_word_of_place one.letter ∙ ap is_by_word (places one other is)
+        ∙ sym (by_word_of_place other.letter) in
         λ i. turns i && (not (marks i) || words_even one.word other.word i)
 
 pub one_thing_is_even : OneThingIsEven
@@ -271,7 +271,7 @@ second_word (Some one) (Some other) alike = refl
 
 -- what is known of a letter's word that is set
 record HasWord (which : ModeLetter) (word : Option (List ℕ)) : Type 0 where
-  written : is_by_its_word which ≡ true → is_some word ≡ true
+  written : needs_word which ≡ true → is_some word ≡ true
   named : is_by_word which ≡ true → is_some word ≡ true
 
 words_tie : (which : ModeLetter) (one other : ModeChange) → HasWord which one.word
@@ -338,7 +338,7 @@ lone : (one other : ModeChange) → place_of one.letter ≡ place_of other.lette
     → is_greater_set other.letter other one ≡ true → ⊥
 lone one other place secret plain above =
     let private : other.letter ≡ letter.Private =
-        other_is other.letter plain ∙ sym place ∙ ap place_of (secret_is one.letter secret) in
+    other_is other.letter plain ∙ sym place ∙ ap place_of (secret_is one.letter secret) in
     true≢false (sym above ∙ ap (λ which. is_greater_set which other one) private)
 
 module _ (one other : ModeChange) (place : place_of one.letter ≡ place_of other.letter) where
@@ -388,15 +388,12 @@ signs_tie false true a b here there = absurd (true≢false there)
 signs_tie false false a b here there = refl
 
 module _ (one other : ModeChange) (is : is_one_place one other ≡ true) where
-  abbrev Places : Type 0
-  Places = place_of one.letter ≡ place_of other.letter
-
   parts : (nat_eq (place_byte one) (place_byte other) ≡ true)
       × ((not (is_by_word one.letter) || are_same_words one.word other.word) ≡ true)
   parts = and_parts (nat_eq (place_byte one) (place_byte other))
       (not (is_by_word one.letter) || are_same_words one.word other.word) is
 
-  place : Places
+  place : place_of one.letter ≡ place_of other.letter
   place = places one other parts.0
 
   named : is_by_word one.letter ≡ true → are_same_words one.word other.word ≡ true
@@ -405,9 +402,9 @@ module _ (one other : ModeChange) (is : is_one_place one other ≡ true) where
   change_never : is_greater_change one other ≡ true → is_greater_change other one ≡ true → ⊥
   change_never here there =
       let first = and_parts one.plus
-          (not other.plus || is_greater_set one.letter one other) here in
+      (not other.plus || is_greater_set one.letter one other) here in
       let second = and_parts other.plus
-          (not one.plus || is_greater_set other.letter other one) there in
+      (not one.plus || is_greater_set other.letter other one) there in
       set_never one other place
       (both_set other.plus (is_greater_set one.letter one other) second.0 first.1)
       (both_set one.plus (is_greater_set other.letter other one) first.0 second.1)
@@ -443,7 +440,7 @@ module _ (one other : ModeChange) (is : is_one_place one other ≡ true) where
         })
         (record {
           written = λ by. second (sym (signs here there) ∙ set)
-              (sym (ap is_by_its_word (letters here there set)) ∙ by);
+              (sym (ap needs_word (letters here there set)) ∙ by);
           named = λ by. second_word one.word other.word (named by);
         })
         (below here there set)

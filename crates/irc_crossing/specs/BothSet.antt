@@ -1,12 +1,8 @@
--- What both ends of a link set at once. Each end does its own setting, and then reads the other's,
--- which gives way to its own where that is no less (`Settings.antt`). So the same thing stays at
--- both ends; and where the two are not of one thing, each end does both.
---   a.net does    :al TOPIC #c :one        b.net does    :bo TOPIC #c :two
---   a.net reads   :bo TOPIC #c :two        b.net reads   :al TOPIC #c :one
---   a.net does    :bo TOPIC #c :two        b.net does    nothing
---   a.net does    :al MODE #c +l 5         b.net does    :bo MODE #c +k x
---   a.net reads   :bo MODE #c +k x         b.net reads   :al MODE #c +l 5
---   a.net does    :bo MODE #c +k x         b.net does    :al MODE #c +l 5
+-- What both ends of a link set at once. Each end does its own, and then reads the other's, which
+-- gives way where it is not the greater (`Settings.antt`): the same stays at both ends.
+--   a.net does   :al TOPIC #c :one      and reads   :bo TOPIC #c :two      which it does too
+--   b.net does   :bo TOPIC #c :two      and reads   :al TOPIC #c :one      and leaves that out
+-- What is of another thing is done at both.
 use Rattle.std.specs.Prelude.{◌≡◌, ℕ, Bool, true, false, ◌&&◌, Option, Some, List}
 use Rattle.std.specs.Prelude.{is_some, unwrap_or}
 use Rattle.std.specs.Bool.{⊤}
@@ -63,16 +59,16 @@ AreAlike one other = ⊥
 
 -- ---- the laws
 
--- whether nothing is set by a letter that has no word
-abbrev pub is_by_its_word : ModeLetter → Bool
-is_by_its_word letter.Key = true
-is_by_its_word letter.Limit = true
-is_by_its_word other = false
+-- whether nothing is set by a letter without its word
+abbrev pub needs_word : ModeLetter → Bool
+needs_word letter.Key = true
+needs_word letter.Limit = true
+needs_word other = false
 
 -- a key and a limit are set with a word, as they are read from a line
 abbrev pub IsWritten : Setting → Type 0
 IsWritten (Mode channel change) =
-    change.plus ≡ true → is_by_its_word change.letter ≡ true → is_some change.word ≡ true
+    change.plus ≡ true → needs_word change.letter ≡ true → is_some change.word ≡ true
 IsWritten other = ⊤
 
 -- Of two settings of one thing, the same stays at both ends.
