@@ -15,7 +15,6 @@ use Rattle.irc_modes.specs.Letters.{letter_byte}
 use Rattle.irc_modes.specs.declared.modes.ModeChange.{ModeChange}
 use Rattle.irc_modes.specs.declared.modes.ModeLetter.{ModeLetter}
 use Rattle.irc_modes.specs.declared.modes.ModeLetter.TheVariants as letter
-use Rattle.irc_crossing.specs.declared.change.Change.TheVariants.{Set}
 use Rattle.irc_crossing.specs.declared.setting.Setting.{Setting}
 use Rattle.irc_crossing.specs.declared.setting.Setting.TheVariants.{Mode, Spelling, Topic}
 use Rattle.irc_crossing.specs.BothSet.{AreAlike, AreAlikeModes, AreAlikeWords, IsWritten}
