@@ -1,5 +1,6 @@
 mod BothEnds
 mod BothMembers
+mod BothSet
 mod Counting
 mod Examples
 mod Following

@@ -1,4 +1,5 @@
 pub mod Asking
+pub mod BothSet
 pub mod Changes
 pub mod Examples
 pub mod Hearing

@@ -1,6 +1,7 @@
 //! What holds of lines that cross, whatever is in the log and whatever comes. Each law is a
 //! function that does nothing, and its contract is the law: the check proves it, and a crate above
 //! may cite it.
+ghost use Rattle.irc_crossing.specs.BothSet.{OneThingIsEven, OthersPass, SettingsAgree};
 ghost use Rattle.irc_crossing.specs.Examples.{BegunIsAsked, BegunIsOne, BegunTwiceIsOne};
 ghost use Rattle.irc_crossing.specs.Examples.{EndedIsAsked, NextIsUnset};
 ghost use Rattle.irc_crossing.specs.Examples.{RaisesBehindOut, SpellingStays};
@@ -48,6 +49,14 @@ pub fn two_to_one_name_go()
 pub fn both_ends_agree()
     ensures here { BothEndsAgree }
     ensures newcomers { NewcomersAgree }
+{}
+
+/// What both ends set at once: of two settings of one thing the same stays at both, and one of
+/// another thing goes as it came.
+pub fn both_settings_agree()
+    ensures agree { SettingsAgree }
+    ensures others { OthersPass }
+    ensures even { OneThingIsEven }
 {}
 
 /// Lines that cross one of this end's.
