@@ -5,7 +5,8 @@
 --   a.net has put out   :al PART #c :bye, by which #c has ended
 --   b.net writes        :bo JOIN #c                 and reads the PART: #c is there, with a topic
 --   a.net writes        TELL #c                     behind the JOIN
---   b.net writes        :b.net NJOIN #c :bo, and :b.net TOPIC #c :hello
+--   b.net writes        :b.net NJOIN #c :, :b.net NJOIN #c :bo, and :b.net TOPIC #c :hello, each
+--                       behind COUNT 17 1 set: as it is, whoever is left in #c by then
 -- So it is where a channel of that name has begun here meanwhile:
 --   a.net has put out   :al PART #c :bye, and :ann JOIN #c\7o
 -- It may have ended here only behind something that the other end had not read as it wrote the

@@ -1,7 +1,12 @@
--- One end asks the other to tell of a channel, which then writes what is set there, as in a burst.
--- It is a line of the layer, as a count is, and no server is given it:
+-- One end asks the other to tell of a channel, which then writes how that is spelled, who is in it
+-- and what is set there. What it tells is set at the other end, not raised. The question is a line
+-- of the layer, as a count is, and no server is given it:
 --   a.net writes    TELL #c
---   b.net writes    :b.net NJOIN #c :bo
+--   b.net writes    COUNT 17 1 set
+--                   :b.net NJOIN #c :
+--                   COUNT 17 1 set
+--                   :b.net NJOIN #c :bo
+--                   COUNT 17 1 set
 --                   :b.net TOPIC #c :hello
 use Rattle.std.specs.Prelude.{ℕ, ◌&&◌, Option, Some, None, Result, Ok, Err, List, [], ◌∷◌}
 use Rattle.std.specs.Prelude.{codes, if◌then◌else◌}
