@@ -103,6 +103,7 @@ pub record Tells (document : Members) (settings : Settings) : Type 0 where
   pub register_within : integer_at (codes "register_within") document
       ≡ option_map pos settings.register_within
   pub pace : pace_at document ≡ option_map pace_told settings.pace
+  pub programs : flag_at (codes "programs") document ≡ settings.programs
   pub peers : map peer_at (tables_at (codes "peer") document) ≡ map peer_told settings.peers.items
 
 -- whether a text is a configuration: a TOML document with the keys that it has to have, and no

@@ -105,8 +105,8 @@ server_keys =
     (integer 0 65535)
     ∷ optional (codes "register_within") (integer 1 3600)
     ∷ optional (codes "lines_per_second") (integer 1 1000)
-    ∷ optional (codes "burst_lines") (integer 1 1000) ∷ optional (codes "peer") (tables is_peer)
-    ∷ []
+    ∷ optional (codes "burst_lines") (integer 1 1000) ∷ optional (codes "programs") flag
+    ∷ optional (codes "peer") (tables is_peer) ∷ []
 
 -- whether a number of lines at once goes with one of lines in a second
 abbrev pub bursts_are_paced : Members → Bool

@@ -3,7 +3,7 @@ ghost use Rattle.toml.specs.View.{table_view};
 ghost use Rattle.irc_settings.specs.Configuration.{AreSettingsOf};
 ghost use Rattle.irc_settings.specs.Loops.Finding.{IsParsedAs, ReadsKeys, ReadsSettings};
 
-use crate::finding::{has_only, limit, optional_number, optional_text, room, text};
+use crate::finding::{flag, has_only, limit, optional_number, optional_text, room, text};
 use crate::pace::{bursts_are_paced, pace};
 use crate::peers::peers;
 use crate::{
@@ -14,7 +14,7 @@ use std::alloc::Global;
 use toml::Table;
 
 /// The keys of the document.
-const SERVER_KEYS: [&str; 14] = [
+const SERVER_KEYS: [&str; 15] = [
     "name",
     "info",
     "created",
@@ -28,6 +28,7 @@ const SERVER_KEYS: [&str; 14] = [
     "register_within",
     "lines_per_second",
     "burst_lines",
+    "programs",
     "peer",
 ];
 
@@ -62,6 +63,8 @@ pub struct Settings {
     pub register_within: Option<u16>,
     /// How many lines of a client are taken, if there is a limit.
     pub pace: Option<LinesPace>,
+    /// Whether clients are told what their programs expect beside the profile.
+    pub programs: bool,
     /// The servers that may be linked to: the tables `peer`, in order.
     pub peers: Vec<PeerSettings, Global>,
 }
@@ -97,7 +100,7 @@ pub struct PeerSettings {
 /// have as fields, and no others; the pace stands at `lines_per_second` and `burst_lines`.
 /// What is an `Option`, a list or a `bool` here may be left out. `name_within` is [`NAME_WITHIN`]
 /// then, `links_per_address` [`LINKS_PER_ADDRESS`], `burst_lines` [`crate::BURST_LINES`], and
-/// `plain` false; 0 at the first two is no limit. `burst_lines` stands only beside
+/// `programs` and `plain` false; 0 at the first two is no limit. `burst_lines` stands only beside
 /// `lines_per_second`, and a peer's `retry` and `plain` beside `connect`. Names, passwords and
 /// addresses are any texts here.
 ///
@@ -160,6 +163,7 @@ fn settings_in(alloc: Global, document: &Table) -> Result<Settings, SettingsFaul
         )?,
         register_within: optional_number(document, "register_within", MOST_REGISTER_WITHIN)?,
         pace: pace(document)?,
+        programs: flag(document, "programs")?,
         peers: peers(alloc, document)?,
     })
 }

@@ -1,11 +1,14 @@
-use Rattle.std.proofs.Common.{◌≡◌, ◌&&◌, true, [], drop, map, option_map, pos, refl, sym, ◌∙◌, rules}
+use Rattle.std.proofs.Common.{Bool, ◌≡◌, ◌&&◌, true, [], drop, map, option_map, pos, refl, sym}
+use Rattle.std.proofs.Common.{◌∙◌, rules}
 use Rattle.std.specs.Prelude.{ℕ, Option, Vec, codes}
 use Rattle.std.specs.declared.alloc.Global.{Global}
 use Rattle.std.specs.List.{list_all}
 use Rattle.toml.specs.View.{table_view}
-use Rattle.irc_settings.specs.Configuration.{Tells, integer_at, pace_at, pace_told, peer_at}
+use Rattle.irc_settings.specs.Configuration.{Tells, flag_at, integer_at, pace_at, pace_told}
+use Rattle.irc_settings.specs.Configuration.{peer_at}
 use Rattle.irc_settings.specs.Configuration.{peer_told, tables_at}
-use Rattle.irc_settings.specs.Keys.{integer, is_in_form, is_kept, is_peer, optional, server_keys}
+use Rattle.irc_settings.specs.Keys.{flag, integer, is_in_form, is_kept, is_peer, optional}
+use Rattle.irc_settings.specs.Keys.{server_keys}
 use Rattle.irc_settings.specs.Keys.{tables}
 use Rattle.irc_settings.specs.declared.settings.LinesPace.{LinesPace}
 use Rattle.irc_settings.specs.declared.settings.PeerSettings.{PeerSettings}
@@ -40,6 +43,16 @@ returns-in_err-pace c =
     (pair_lost 11 server_keys key other (drop 13 server_keys) table refl)
     c.in_err-pace.ensures c.from_residual-in_err-pace.ensures.1
 
+pub returns-in_err-flag : goal.returns-in_err-flag
+returns-in_err-flag c =
+    let table = table_view c.args.document.now in
+    let key = optional (codes "programs") flag in
+    refused (is_kept table key) (is_in_form server_keys table)
+    (λ (found : Bool). flag_at (codes "programs") table ≡ found) (Tells table)
+    c.from_residual-in_err-flag.result c.in_err-flag.field-0.0
+    (key_lost 13 server_keys key (drop 14 server_keys) table refl)
+    c.in_err-flag.ensures c.from_residual-in_err-flag.ensures.1
+
 pub returns-in_err-peers : goal.returns-in_err-peers
 returns-in_err-peers c =
     let table = table_view c.args.document.now in
@@ -48,7 +61,7 @@ returns-in_err-peers c =
     (λ (found : Vec PeerSettings Global).
     map peer_at (tables_at (codes "peer") table) ≡ map peer_told found.items) (Tells table)
     c.from_residual-in_err-peers.result c.in_err-peers.field-0.0
-    (key_lost 13 server_keys key [] table refl)
+    (key_lost 14 server_keys key [] table refl)
     c.in_err-peers.ensures c.from_residual-in_err-peers.ensures.1
 
 pub returns : goal.returns
@@ -70,6 +83,7 @@ returns c =
       c.in_ok-optional_number-2.ensures.0,
       per_second_kept per_second burst c.in_ok-pace.ensures.0,
       burst_kept per_second burst c.in_ok-pace.ensures.0,
+      c.in_ok-flag.ensures.0,
       c.in_ok-peers.ensures.0,
     ) in (
       all_kept server_keys c.args.document.now.entries (sym c.has_only.ensures ∙ search rules) kept,
@@ -86,6 +100,7 @@ returns c =
         links_per_address = c.in_ok-limit-2.ensures.1;
         register_within = c.in_ok-optional_number-2.ensures.1;
         pace = c.in_ok-pace.ensures.1;
+        programs = c.in_ok-flag.ensures.1;
         peers = c.in_ok-peers.ensures.1;
       },
     )
