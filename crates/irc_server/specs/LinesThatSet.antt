@@ -20,7 +20,8 @@
 --   `:b.net KICK c bo :out`    2 is closed as BadName: `c` is no channel's name
 --   `:bo KICK #c al :out`, `:b.net NJOIN #c :@bo`, `FOO`
 --                              as they are heard from any link
-use Rattle.std.specs.Prelude.{◌≡◌, ℕ, Bool, not, ◌&&◌, is_some, Option, Some, None, Result, Ok, Err}
+use Rattle.std.specs.Prelude.{◌≡◌, ℕ, Bool, true, not, ◌&&◌, is_some, Option, Some, None, Result}
+use Rattle.std.specs.Prelude.{Ok, Err}
 use Rattle.std.specs.Prelude.{List, [], ◌∷◌, ◌++◌, codes, if◌then◌else◌}
 use Rattle.std.specs.FinMap.{get}
 use Rattle.std.specs.Option.{option_map}

@@ -1,4 +1,4 @@
-use Rattle.std.proofs.Common.{None, Some, ap, ◌∙◌, subst, sym}
+use Rattle.std.proofs.Common.{None, ap, ◌∙◌, subst, sym}
 use Rattle.irc_room.specs.Lemmas.Rows.{found_also}
 use Rattle.irc_room.specs.effect.Effect.TheVariants.{Quit}
 use Rattle.irc_stage.specs.ClientTold.{quit_told, unseated}

@@ -1,4 +1,4 @@
-use Rattle.std.proofs.Common.{Option, Some, None, ◌∙◌, ap, sym, refl}
+use Rattle.std.proofs.Common.{Option, Some, ◌∙◌, ap, sym, refl}
 use Rattle.std.specs.Option.{option_or}
 use Rattle.irc_stage.specs.View.{View}
 use Rattle.irc_server.specs.Served.{fault_of}

@@ -1,0 +1,60 @@
+-- A door in front of a machine: a server, or a layer around one. The machine is given each event as
+-- it comes, one for one, and what it says to clients is turned as programs expect it
+-- (`Turning.antt`), in order; what it puts out on links goes as it is, and so does whom it closes.
+-- Where nothing is asked for, all goes as it is.
+use Rattle.std.specs.Prelude.{◌≡◌, ℕ, Bool, true, false, Result, Ok, Err, List, [], ◌∷◌, ◌++◌, map}
+use Rattle.std.specs.List.{flat_map}
+use Rattle.irc_batch.specs.Batches.{Sent, end_of, end_of_link, line_on, line_to}
+use Rattle.irc_server.specs.declared.event.Event.{Event}
+use Rattle.irc_server.specs.declared.event.ServerFault.{ServerFault}
+use Rattle.irc_engine.specs.Machines.{is_out_of_memory, due_by, never_due, Dues, Handles}
+use Rattle.irc_door.specs.declared.door.Door.{Door}
+use Rattle.irc_door.specs.declared.door.Programs.{Programs}
+use Rattle.irc_door.specs.declared.door.Programs.TheVariants.{Off, Usual}
+use Rattle.irc_door.specs.Turning.{turned, written}
+
+abbrev pub to_client : ℕ → List (List ℕ) → List Sent
+to_client conn = map (line_to conn)
+
+abbrev pub said : Sent → List Sent
+said (line_to conn line) = to_client conn (written line (turned line))
+said (end_of conn) = end_of conn ∷ []
+said (line_on link line) = line_on link line ∷ []
+said (end_of_link link reason) = end_of_link link reason ∷ []
+
+abbrev pub all_said : List Sent → List Sent
+all_said = flat_map said
+
+abbrev pub said_by : Programs → List Sent → List Sent
+said_by Off outs = outs
+said_by Usual outs = all_said outs
+
+-- What may come of an event: it is handled, and what is put out is said; it is refused as the
+-- machine refuses it, and nothing is put out; or memory runs out.
+pub data IsTurned {M : Type 0} (handles : Handles M) (old : Door M) (event : Event)
+    (before : List Sent) : Result (Unit {0}) ServerFault → Door M → List Sent → Type 0 where
+  says : {new : Door M} {after : List Sent} (outs : List Sent)
+      → handles old.machine event [] (Ok tt) new.machine outs → new.programs ≡ old.programs
+      → after ≡ before ++ said_by old.programs outs
+      → IsTurned handles old event before (Ok tt) new after
+  refuses : {new : Door M} {after : List Sent} (fault : ServerFault) (outs : List Sent)
+      → handles old.machine event [] (Err fault) new.machine outs → new.programs ≡ old.programs
+      → after ≡ before → IsTurned handles old event before (Err fault) new after
+  wants_memory : {new : Door M} {after : List Sent} (fault : ServerFault)
+      → is_out_of_memory fault ≡ true → IsTurned handles old event before (Err fault) new after
+
+-- The same of what is due at a moment; where nothing ever is of the machine, nothing is of the door.
+pub data IsSaid {M : Type 0}
+    (is_due : M → ℕ → List Sent → Result (Unit {0}) ServerFault → M → List Sent → Type 0)
+    (old : Door M) (moment : ℕ) (before : List Sent)
+    : Result (Unit {0}) ServerFault → Door M → List Sent → Type 0 where
+  says_due : {new : Door M} {after : List Sent} (outs : List Sent)
+      → is_due old.machine moment [] (Ok tt) new.machine outs → new.programs ≡ old.programs
+      → after ≡ before ++ said_by old.programs outs
+      → IsSaid is_due old moment before (Ok tt) new after
+  has_no_memory : {new : Door M} {after : List Sent} (fault : ServerFault)
+      → is_out_of_memory fault ≡ true → IsSaid is_due old moment before (Err fault) new after
+
+abbrev pub dues_by : {M : Type 0} → Dues M → Dues (Door M)
+dues_by never_due = never_due
+dues_by (due_by is_due) = due_by (IsSaid is_due)

@@ -1,0 +1,43 @@
+-- Texts for clients, and what is written: the examples of `Turning.antt` and `Letters.antt`.
+use Rattle.std.specs.Prelude.{◌≡◌, ℕ, Some, List, [], ◌∷◌, ◌++◌, codes}
+use Rattle.irc_line.specs.Bytes.{crlf}
+use Rattle.irc_numerics.specs.declared.replies.Reply.TheVariants.{MyInfo}
+use Rattle.irc_numerics.specs.Replies.{bare, table}
+use Rattle.irc_door.specs.Letters.{whole_letters}
+use Rattle.irc_door.specs.Turning.{turned, written}
+
+abbrev pub said_of : List ℕ → List (List ℕ)
+said_of line = written (line ++ crlf) (turned (line ++ crlf))
+
+pub record RowsAreTurned : Type 0 where
+  pub supported : said_of (codes ":a.net 004 al a.net treeircd-1 i biklmnopstv")
+      ≡ (codes ":a.net 004 al a.net treeircd-1 i biklmnopstv" ++ crlf)
+      ∷ (codes
+      ":a.net 005 al CASEMAPPING=rfc1459 CHANTYPES=# PREFIX=(ov)@+ CHANMODES=b,k,l,imnpst MODES=3 NICKLEN=30 CHANNELLEN=50 TOPICLEN=160 KICKLEN=160 MAXLIST=b:30 CHANLIMIT=#:10 TARGMAX=JOIN:,PART:,KICK:,LIST:,WHOIS:,PRIVMSG:4,NOTICE:4 :are supported by this server"
+      ++ crlf) ∷ []
+  pub invited : said_of (codes ":a.net 341 al #c bo") ≡ (codes ":a.net 341 al bo #c" ++ crlf) ∷ []
+  pub nick : said_of (codes ":al!u@h NICK ally") ≡ (codes ":al!u@h NICK :ally" ++ crlf) ∷ []
+  pub version : said_of (codes ":a.net 421 al version :Unknown command")
+      ≡ (codes ":a.net 351 al treeircd-1 a.net :RFC 2811, 2812 and 2813 in a profile" ++ crlf) ∷ []
+
+-- a text that no row names goes as it is, whatever it says
+pub record OthersGo : Type 0 where
+  pub command : said_of (codes ":a.net 421 al FOO :Unknown command")
+      ≡ (codes ":a.net 421 al FOO :Unknown command" ++ crlf) ∷ []
+  pub text : said_of (codes ":al!u@h PRIVMSG bo :341 al #c bo")
+      ≡ (codes ":al!u@h PRIVMSG bo :341 al #c bo" ++ crlf) ∷ []
+  pub ending : said_of (codes "ERROR :Closing link (bye)")
+      ≡ (codes "ERROR :Closing link (bye)" ++ crlf) ∷ []
+
+-- letters of two, of three and of four bytes, and what is no UTF-8
+pub record LettersAreWhole : Type 0 where
+  pub two : whole_letters (0xD0 ∷ 0xBF ∷ 0xD1 ∷ []) ≡ 0xD0 ∷ 0xBF ∷ []
+  pub three : whole_letters (0x61 ∷ 0xE2 ∷ 0x82 ∷ []) ≡ 0x61 ∷ []
+  pub four : whole_letters (0x61 ∷ 0xF0 ∷ 0x9F ∷ 0x98 ∷ []) ≡ 0x61 ∷ []
+  pub whole : whole_letters (0xD0 ∷ 0xBF ∷ []) ≡ 0xD0 ∷ 0xBF ∷ []
+  pub other : whole_letters (0x61 ∷ 0xE9 ∷ 0x62 ∷ 0xD1 ∷ []) ≡ 0x61 ∷ 0xE9 ∷ 0x62 ∷ 0xD1 ∷ []
+
+-- 351 has the version that 004 has
+abbrev pub VersionIsOne : Type 0
+VersionIsOne = (server : List ℕ) → table (MyInfo server)
+    ≡ bare 004 (server ∷ codes "treeircd-1" ∷ codes "i" ∷ codes "biklmnopstv" ∷ [])

@@ -1,0 +1,5 @@
+pub mod Doors
+pub mod Examples
+pub mod Letters
+pub mod Supported
+pub mod Turning

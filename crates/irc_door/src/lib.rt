@@ -1,0 +1,13 @@
+//! What programs expect that a server does not say: a door in front of a machine, which turns what
+//! is said to clients, where the configuration asks for it. What a server is given, and what goes
+//! on links, it leaves as it is. Definitions are in `specs/`.
+#![tactic(auto)]
+
+mod door;
+pub mod laws;
+mod letters;
+mod saying;
+mod supported;
+mod turning;
+
+pub use door::{Door, Programs};
