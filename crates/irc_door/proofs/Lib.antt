@@ -1,1 +1,4 @@
+pub mod Cutting
+pub mod Due
+pub mod Examples
 pub mod Said

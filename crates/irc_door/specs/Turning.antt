@@ -37,25 +37,25 @@ last_word message = word_at (length message.params - 1) message
 
 -- ---- the rows
 
+abbrev pub from : (sender command : List ℕ) → List (List ℕ) → Option (List ℕ) → Written
+from sender command middle last =
+    record { sender = named sender; command = command; middle = middle; last = last }
+
+abbrev pub invited_by : (sender doer nick channel : List ℕ) → Written
+invited_by sender doer nick channel =
+    from sender (codes "341") (doer ∷ nick ∷ channel ∷ []) None
+
 abbrev pub invited_parts : (sender : List ℕ) → Parsed → Written
-invited_parts sender message = record {
-  sender = named sender;
-  command = codes "341";
-  middle = word_at 0 message ∷ word_at 2 message ∷ word_at 1 message ∷ [];
-  last = None;
-}
+invited_parts sender message =
+    invited_by sender (word_at 0 message) (word_at 2 message) (word_at 1 message)
 
 abbrev pub nick_parts : (sender nick : List ℕ) → Written
-nick_parts sender nick =
-    record { sender = named sender; command = codes "NICK"; middle = []; last = Some nick }
+nick_parts sender nick = from sender (codes "NICK") [] (Some nick)
 
 abbrev pub version_parts : (server nick : List ℕ) → Written
-version_parts server nick = record {
-  sender = named server;
-  command = codes "351";
-  middle = nick ∷ codes "treeircd-1" ∷ server ∷ [];
-  last = Some (codes "RFC 2811, 2812 and 2813 in a profile");
-}
+version_parts server nick =
+    from server (codes "351") (nick ∷ codes "treeircd-1" ∷ server ∷ [])
+    (Some (codes "RFC 2811, 2812 and 2813 in a profile"))
 
 -- in which letters a command stands is one
 abbrev pub refused : (sender : List ℕ) → Parsed → Turned

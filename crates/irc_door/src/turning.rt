@@ -1,9 +1,11 @@
 //! A text for a client, as it is written to it.
 ghost use Rattle.std.specs.Prelude.{◌≡◌, ◌-◌, ◌++◌, length, take};
 ghost use Rattle.irc_line.specs.Bytes.{crlf, cut};
-ghost use Rattle.irc_line.specs.MessageViews.{parsed};
+ghost use Rattle.irc_line.specs.MessageViews.{optional_now, parsed};
 ghost use Rattle.irc_line.specs.Messages.{text};
-ghost use Rattle.irc_door.specs.Turning.{body, cut_at_letter, invited_parts, is_full, last_word};
+ghost use Rattle.irc_line.specs.PartViews.{words_now};
+ghost use Rattle.irc_door.specs.Turning.{body, cut_at_letter, from, invited_by, invited_parts};
+ghost use Rattle.irc_door.specs.Turning.{is_full, last_word};
 ghost use Rattle.irc_door.specs.Turning.{nick_parts, refused, turned, turned_by, turned_message};
 ghost use Rattle.irc_door.specs.Turning.{says, version_parts, word_at};
 
@@ -75,24 +77,37 @@ fn turn_from(line: &[u8], message: &Message<'_>, sender: &[u8]) -> Turned
 fn invited_text(sender: &[u8], message: &Message<'_>) -> Text
     ensures { result.items ≡ text (invited_parts sender.now (parsed message.now)) }
 {
-    let (channel, nick) = (word_at(message, 1), word_at(message, 2));
-    write_message(&Parts {
-        prefix: Prefix::Name(sender),
-        command: b"341",
-        middle: &[word_at(message, 0), nick, channel],
-        last: None,
-    })
+    invited(
+        sender,
+        word_at(message, 0),
+        word_at(message, 2),
+        word_at(message, 1),
+    )
+}
+
+fn invited<'x>(sender: &'x [u8], doer: &'x [u8], nick: &'x [u8], channel: &'x [u8]) -> Text
+    ensures { result.items ≡ text (invited_by sender.now doer.now nick.now channel.now) }
+{
+    reply(sender, b"341", &[doer, nick, channel], None)
 }
 
 /// NICK with a colon before the nickname.
 fn nick_text(sender: &[u8], nick: &[u8]) -> Text
     ensures { result.items ≡ text (nick_parts sender.now nick.now) }
 {
+    reply(sender, b"NICK", &[], Some(nick))
+}
+
+/// A line from somebody, with its CR LF.
+pub(crate) fn reply(sender: &[u8], command: &[u8], middle: &[&[u8]], last: Option<&[u8]>) -> Text
+    ensures { result.items ≡ text (from sender.now command.now (words_now middle.now)
+        (optional_now last.entry)) }
+{
     write_message(&Parts {
         prefix: Prefix::Name(sender),
-        command: b"NICK",
-        middle: &[],
-        last: Some(nick),
+        command,
+        middle,
+        last,
     })
 }
 
@@ -107,15 +122,15 @@ fn refused(sender: &[u8], message: &Message<'_>) -> Turned
     }
 }
 
-fn version_text(server: &[u8], nick: &[u8]) -> Text
+fn version_text<'x>(server: &'x [u8], nick: &'x [u8]) -> Text
     ensures { result.items ≡ text (version_parts server.now nick.now) }
 {
-    write_message(&Parts {
-        prefix: Prefix::Name(server),
-        command: b"351",
-        middle: &[nick, VERSION, server],
-        last: Some(b"RFC 2811, 2812 and 2813 in a profile"),
-    })
+    reply(
+        server,
+        b"351",
+        &[nick, VERSION, server],
+        Some(b"RFC 2811, 2812 and 2813 in a profile"),
+    )
 }
 
 /// Whether a line may have been cut: it is as long as one may be, or ends in words as long as those

@@ -1,0 +1,27 @@
+-- Texts for clients, computed.
+use Rattle.std.proofs.Common.{refl}
+use Rattle.std.specs.Fmt.{digits}
+use Rattle.std.specs.Str.{chars, is_utf8}
+use Rattle.std.specs.Str.Lossy.{utf8_error_len, utf8_valid_len}
+use Rattle.irc_line.specs.Bytes.{cut}
+use Rattle.irc_line.specs.Messages.{line_text}
+use Rattle.irc_line.specs.Reading.{read_of}
+use Rattle.irc_numerics.specs.Replies.{table}
+use Rattle.irc_door.specs.Letters.{whole_letters}
+use Rattle.irc_door.specs.Examples.{LettersAreWhole, OthersGo, RowsAreTurned, VersionIsOne}
+
+pub rows_are_turned : RowsAreTurned
+unfolding read_of line_text cut digits
+rows_are_turned = record { supported = refl; invited = refl; nick = refl; version = refl }
+
+pub others_go : OthersGo
+unfolding read_of line_text cut digits whole_letters
+others_go = record { command = refl; text = refl; ending = refl }
+
+pub letters_are_whole : LettersAreWhole
+unfolding whole_letters utf8_error_len utf8_valid_len is_utf8 chars lib.Utf8.encode
+letters_are_whole = record { two = refl; three = refl; four = refl; whole = refl; other = refl }
+
+pub version_is_one : VersionIsOne
+unfolding table
+version_is_one server = refl

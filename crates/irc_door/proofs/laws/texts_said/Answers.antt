@@ -1,0 +1,14 @@
+use Rattle.irc_door.proofs.Examples.{letters_are_whole, others_go, rows_are_turned, version_is_one}
+use Rattle.irc_door.proofs.laws.texts_said.Goals as goal
+
+pub returns-clause-rows : goal.returns-clause-rows
+returns-clause-rows c = rows_are_turned
+
+pub returns-clause-others : goal.returns-clause-others
+returns-clause-others c = others_go
+
+pub returns-clause-letters : goal.returns-clause-letters
+returns-clause-letters c = letters_are_whole
+
+pub returns-clause-version : goal.returns-clause-version
+returns-clause-version c = version_is_one
