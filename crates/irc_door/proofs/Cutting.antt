@@ -47,7 +47,8 @@ is_whole text well =
     ∙ sym (chosen text (begins text (utf8_valid_len text)) refl)
   where
     all : (b : Bool) → text ≡ (if b then take (utf8_valid_len text) text else text)
-    all true = sym (take-length text) ∙ ap (λ n. take n text) (sym (utf8_valid_len-IsUtf8 text well))
+    all true = sym (take-length text)
+        ∙ ap (λ n. take n text) (sym (utf8_valid_len-IsUtf8 text well))
     all false = refl
 
 pub well_formed : {E : Type 0} (F : E → Type 0) (text : List ℕ) (r : Result (Bor (List ℕ)) E)

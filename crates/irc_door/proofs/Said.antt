@@ -1,5 +1,6 @@
 -- What is said to clients closes nobody: whom a machine closes its door closes.
-use Rattle.std.proofs.Common.{◌≡◌, ℕ, Bool, false, not, ◌&&◌, ◌||◌, Option, Some, List, [], ◌∷◌, ◌++◌, map}
+use Rattle.std.proofs.Common.{◌≡◌, ℕ, Bool, false, not, ◌&&◌, ◌||◌, Option, Some, List, [], ◌∷◌}
+use Rattle.std.proofs.Common.{◌++◌, map}
 use Rattle.std.proofs.Common.{refl, sym, ◌∙◌, ap, subst}
 use Rattle.std.specs.List.{list_any}
 use Rattle.std.proofs.lemmas.List.Folds.{list_any-append}
@@ -90,7 +91,8 @@ connected_said event programs server after held outs before end none by is = rec
 still_of : (programs : Programs) (was new : View) (outs : List Sent)
     → AreStillConnected was outs new → AreStillConnected was (said_by programs outs) new
 still_of programs was new outs by = record {
-  clients = λ q. by.clients q ∙ ap (λ t. has_client was q && not t) (sym (client_said programs outs q));
+  clients = λ q. by.clients q
+      ∙ ap (λ t. has_client was q && not t) (sym (client_said programs outs q));
   links = λ q. by.links q ∙ ap (λ t. has_link was q && not t) (sym (link_said programs outs q));
   clients_were_there = λ q ended. by.clients_were_there q
       (sym (client_said programs outs q) ∙ ended);

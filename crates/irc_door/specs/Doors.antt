@@ -2,9 +2,10 @@
 -- it comes, one for one, and what it says to clients is turned as programs expect it
 -- (`Turning.antt`), in order; what it puts out on links goes as it is, and so does whom it closes.
 -- Where nothing is asked for, all goes as it is.
-use Rattle.std.specs.Prelude.{◌≡◌, ℕ, Bool, true, false, Result, Ok, Err, List, [], ◌∷◌, ◌++◌, map}
+use Rattle.std.specs.Prelude.{◌≡◌, ℕ, true, Option, Result, Ok, Err, List, [], ◌∷◌, ◌++◌, map}
 use Rattle.std.specs.List.{flat_map}
 use Rattle.irc_batch.specs.Batches.{Sent, end_of, end_of_link, line_on, line_to}
+use Rattle.irc_stage.specs.View.{View}
 use Rattle.irc_server.specs.declared.event.Event.{Event}
 use Rattle.irc_server.specs.declared.event.ServerFault.{ServerFault}
 use Rattle.irc_engine.specs.Machines.{is_out_of_memory, due_by, never_due, Dues, Handles}
@@ -29,6 +30,10 @@ abbrev pub said_by : Programs → List Sent → List Sent
 said_by Off outs = outs
 said_by Usual outs = all_said outs
 
+-- the server behind a door is its machine's
+abbrev pub server_behind : {M : Type 0} → (M → Option View) → Door M → Option View
+server_behind server_of door = server_of door.machine
+
 -- What may come of an event: it is handled, and what is put out is said; it is refused as the
 -- machine refuses it, and nothing is put out; or memory runs out.
 pub data IsTurned {M : Type 0} (handles : Handles M) (old : Door M) (event : Event)
@@ -43,7 +48,7 @@ pub data IsTurned {M : Type 0} (handles : Handles M) (old : Door M) (event : Eve
   wants_memory : {new : Door M} {after : List Sent} (fault : ServerFault)
       → is_out_of_memory fault ≡ true → IsTurned handles old event before (Err fault) new after
 
--- The same of what is due at a moment; where nothing ever is of the machine, nothing is of the door.
+-- The same of what is due at a moment; where nothing ever is of the machine, nothing is of it.
 pub data IsSaid {M : Type 0}
     (is_due : M → ℕ → List Sent → Result (Unit {0}) ServerFault → M → List Sent → Type 0)
     (old : Door M) (moment : ℕ) (before : List Sent)

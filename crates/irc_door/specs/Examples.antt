@@ -12,8 +12,11 @@ said_of line = written (line ++ crlf) (turned (line ++ crlf))
 pub record RowsAreTurned : Type 0 where
   pub supported : said_of (codes ":a.net 004 al a.net treeircd-1 i biklmnopstv")
       ≡ (codes ":a.net 004 al a.net treeircd-1 i biklmnopstv" ++ crlf)
-      ∷ (codes
-      ":a.net 005 al CASEMAPPING=rfc1459 CHANTYPES=# PREFIX=(ov)@+ CHANMODES=b,k,l,imnpst MODES=3 NICKLEN=30 CHANNELLEN=50 TOPICLEN=160 KICKLEN=160 MAXLIST=b:30 CHANLIMIT=#:10 TARGMAX=JOIN:,PART:,KICK:,LIST:,WHOIS:,PRIVMSG:4,NOTICE:4 :are supported by this server"
+      ∷ (codes ":a.net 005 al CASEMAPPING=rfc1459 CHANTYPES=# PREFIX=(ov)@+"
+      ++ codes " CHANMODES=b,k,l,imnpst MODES=3 NICKLEN=30 CHANNELLEN=50 TOPICLEN=160"
+      ++ codes " KICKLEN=160 MAXLIST=b:30 CHANLIMIT=#:10"
+      ++ codes " TARGMAX=JOIN:,PART:,KICK:,LIST:,WHOIS:,PRIVMSG:4,NOTICE:4"
+      ++ codes " :are supported by this server"
       ++ crlf) ∷ []
   pub invited : said_of (codes ":a.net 341 al #c bo") ≡ (codes ":a.net 341 al bo #c" ++ crlf) ∷ []
   pub nick : said_of (codes ":al!u@h NICK ally") ≡ (codes ":al!u@h NICK :ally" ++ crlf) ∷ []

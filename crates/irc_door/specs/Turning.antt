@@ -2,7 +2,7 @@
 -- row looks for what stands behind a sender, a number or NICK; nobody but a server says a number. A
 -- text that no row names goes as it is, byte for byte.
 --   the server says                                what is written
---   :a.net 004 al a.net treeircd-1 i biklmnopstv   the same, and :a.net 005 al .. (`Supported.antt`)
+--   :a.net 004 al a.net treeircd-1 i biklmnopstv   the same, and :a.net 005 (`Supported.antt`)
 --   :a.net 341 al #c bo                            :a.net 341 al bo #c
 --   :al!u@h NICK ally                              :al!u@h NICK :ally
 --   :a.net 421 al VERSION :Unknown command         :a.net 351 al treeircd-1 a.net :RFC 2811, ..

@@ -56,9 +56,9 @@ fn put_said(programs: Programs, held: &mut Batch, out: &mut Batch) -> Result<(),
 }
 
 impl<M: Machine> Machine for Door<M> {
-    ghost use Rattle.irc_door.specs.Doors.{dues_by, IsTurned};
+    ghost use Rattle.irc_door.specs.Doors.{dues_by, server_behind, IsTurned};
 
-    ghost server_of = { λ door. M.server_of door.machine };
+    ghost server_of = { server_behind M.server_of };
 
     ghost handles = { IsTurned M.handles };
 

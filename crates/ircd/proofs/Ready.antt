@@ -9,8 +9,6 @@ use Rattle.irc_engine.specs.declared.engine.EngineFault.{EngineFault}
 use Rattle.irc_engine.specs.EngineView.{EngineViewOf}
 use Rattle.irc_engine.specs.Machines.{never_due}
 use Rattle.irc_engine.specs.Telling.{RunsTellingBy}
-use Rattle.irc_layer.specs.declared.layer.Layer.{Layer}
-use Rattle.irc_layer.specs.Layers.{server_of, IsLayered}
 use Rattle.irc_engine.specs.Laws.Tellings.{runs_tell_some}
 use Rattle.irc_journal.specs.Saying.{AreSomeSaid}
 use Rattle.irc_endings.specs.declared.fault.Stop.{Stop}
@@ -22,6 +20,7 @@ use Rattle.std.specs.declared.net.socket_addr.SocketAddr.{SocketAddr}
 use Rattle.ircd.specs.ClosedDoors.{SaysClosed, SaysFault}
 use Rattle.ircd.specs.Serving.{IsCutShort, IsFailed, IsOpened, IsReadSetup, IsTextOf, IsUnopened}
 use Rattle.ircd.specs.Serving.{Serves, ServesFile, ServesText, listening_of}
+use Rattle.ircd.specs.Serving.{front_server, Front, IsAnswered}
 use Rattle.ircd.specs.Serving.IsCutShort.{printing, unopened, unprinted}
 use Rattle.ircd.specs.Serving.IsFailed.{failed_opening, failed_serving}
 use Rattle.ircd.specs.Serving.IsUnopened.{clients_closed, links_closed, untold}
@@ -41,8 +40,8 @@ nothing_said : (held : Option (List ℕ)) → AreSomeSaid held held
 nothing_said held = ([], refl)
 
 -- `ready` is cut short
-module _ {W : Type 0} (is_after : W → List Call → Type 0) (turns : ℕ) (old new : EngineViewOf W Layer)
-    (held after said said_after : Option (List ℕ)) where
+module _ {W : Type 0} (is_after : W → List Call → Type 0) (turns : ℕ)
+    (old new : EngineViewOf W Front) (held after said said_after : Option (List ℕ)) where
   cut_by : (r : Result (Unit {0}) Stop) → Wrote held after ready_text
       → AreSomeSaid said said_after → IsErrAnd r (λ stop. stop ≡ Failed)
       → Serves is_after turns old new held after said said_after r
@@ -58,16 +57,16 @@ module _ {W : Type 0} (is_after : W → List Call → Type 0) (turns : ℕ) (old
   ready_said (Err stop) appended tells gone = cut_by (Err stop) tells gone.1 gone.0
 
 pub ready_cut : {W : Type 0} (is_after : W → List Call → Type 0) (turns : ℕ)
-    (old new : EngineViewOf W Layer) (held after said : Option (List ℕ))
+    (old new : EngineViewOf W Front) (held after said : Option (List ℕ))
     (r : Result (Unit {0}) Stop) → Wrote held after ready_text → IsErrAnd r (λ stop. stop ≡ Failed)
     → Serves is_after turns old new held after said said r
 ready_cut is_after turns old new held after said r tells failed =
     cut_by is_after turns old new held after said said r tells (nothing_said said) failed
 
 -- a turn is not taken
-pub turns_stopped : {W : Type 0} (is_after : W → List Call → Type 0) (old : EngineViewOf W Layer)
-    (turns : ℕ) (new : EngineViewOf W Layer) (said said_after : Option (List ℕ))
-    (r : Result (Unit {0}) EngineFault) → RunsTellingBy is_after server_of IsLayered never_due
+pub turns_stopped : {W : Type 0} (is_after : W → List Call → Type 0) (old : EngineViewOf W Front)
+    (turns : ℕ) (new : EngineViewOf W Front) (said said_after : Option (List ℕ))
+    (r : Result (Unit {0}) EngineFault) → RunsTellingBy is_after front_server IsAnswered never_due
     old said turns new said_after r
     → TakesTurns is_after old turns new said said_after (Err Failed)
 turns_stopped is_after old turns new said said_after r runs =
@@ -110,7 +109,7 @@ not_opened text turns (Err e) stop setup held said said_after is none failed =
     (unopened setup is refl none.1)
 
 -- what it sets up is served
-text_served : (turns : ℕ) (first last : EngineViewOf MioWire Layer) (text : List ℕ)
+text_served : (turns : ℕ) (first last : EngineViewOf MioWire Front) (text : List ℕ)
     (setup : Setup) (held after said said_after : Option (List ℕ)) (r : Result (Unit {0}) Stop)
     → IsTextOf text setup → IsOpened setup first
     → Serves (λ wire calls. ⊤) turns first last held after said said_after r
@@ -135,7 +134,7 @@ text_served turns first last text setup held after said said_after
     (Err (BadScript line)) is opened serves = absurd serves
 
 -- the same, where nothing was said before
-pub opened_served : (turns : ℕ) (first last : EngineViewOf MioWire Layer) (text : List ℕ)
+pub opened_served : (turns : ℕ) (first last : EngineViewOf MioWire Front) (text : List ℕ)
     (setup : Setup) (held after said between said_after : Option (List ℕ))
     (r : Result (Unit {0}) Stop) → IsTextOf text setup
     → IsOpened setup first × (between ≡ said)

@@ -1,6 +1,6 @@
 -- What a configuration sets up, and how serving ends.
-use Rattle.std.specs.Prelude.{◌≡◌, ℕ, true, false, Option, Some, None, Result, Ok, Err, List, []}
-use Rattle.std.specs.Prelude.{◌∷◌, map, option_map, is_some, string_bytes, ⊤}
+use Rattle.std.specs.Prelude.{◌≡◌, ℕ, Bool, true, false, Option, Some, None, Result, Ok, Err, List}
+use Rattle.std.specs.Prelude.{[], ◌∷◌, map, option_map, is_some, string_bytes, ⊤}
 use Rattle.std.specs.Prelude.{◌&&◌, if◌then◌else◌}
 use Rattle.std.specs.List.{filter_map}
 use Rattle.std.specs.Io.KnownBytes.{Appends}
@@ -14,12 +14,16 @@ use Rattle.irc_settings.specs.declared.settings.PeerSettings.{PeerSettings}
 use Rattle.irc_settings.specs.Configuration.{AreSettingsOf, is_configuration}
 use Rattle.irc_server.specs.declared.config.Config.{Config}
 use Rattle.irc_server.specs.Configuring.{config_fault, made_view}
-use Rattle.irc_stage.specs.View.{KnownPeer, known_peer}
-use Rattle.irc_engine.specs.Machines.{never_due}
+use Rattle.irc_stage.specs.View.{KnownPeer, View, known_peer}
+use Rattle.irc_engine.specs.Machines.{never_due, Handles}
 use Rattle.irc_engine.specs.Turning.{IsNew}
 use Rattle.irc_engine.specs.EngineView.{EngineViewOf}
 use Rattle.irc_engine.specs.Telling.{ToldTurnsBy}
 use Rattle.irc_journal.specs.Saying.{AreSomeSaid}
+use Rattle.irc_door.specs.declared.door.Door.{Door}
+use Rattle.irc_door.specs.declared.door.Programs.{Programs}
+use Rattle.irc_door.specs.declared.door.Programs.TheVariants.{Off, Usual}
+use Rattle.irc_door.specs.Doors.{server_behind, IsTurned}
 use Rattle.irc_layer.specs.declared.layer.Layer.{Layer}
 use Rattle.irc_layer.specs.Layers.{server_of, IsAround, IsLayered}
 use Rattle.irc_turns.specs.Spreads.{name_spread}
@@ -103,10 +107,16 @@ abbrev pub pace_set : Option SettingsPace → Option LinesPace
 pace_set None = None
 pace_set (Some pace) = Some (record { per_second = pace.per_second; burst = pace.burst })
 
+-- clients are told what their programs expect, if the settings ask for it
+abbrev pub programs_set : Bool → Programs
+programs_set true = Usual
+programs_set false = Off
+
 -- The server is made of the settings, without clients, and of their name; where it listens, whom it
 -- calls, without the word by which pieces are counted too, and again when, by its own name too, how
--- many connections an address may have, how many of these for links without a name and for how long,
--- to which pace of lines clients keep, and how much may wait is theirs.
+-- many connections an address may have, how many of these for links without a name and for how
+-- long, to which pace of lines clients keep, what these are told beside the profile, and how much
+-- may wait is theirs.
 pub record IsSetUp (settings : Settings) (setup : Setup) : Type 0 where
   pub config : Config
   pub configures : Configures settings config
@@ -122,6 +132,7 @@ pub record IsSetUp (settings : Settings) (setup : Setup) : Type 0 where
   pub links_per_address : setup.links_per_address ≡ settings.links_per_address
   pub register_within : setup.register_within ≡ settings.register_within
   pub pace : setup.pace ≡ pace_set settings.pace
+  pub programs : setup.programs ≡ programs_set settings.programs
   pub client_room : setup.client_room ≡ settings.client_room
   pub link_room : setup.link_room ≡ settings.link_room
 
@@ -178,17 +189,28 @@ listening_of setup =
       pace = setup.pace;
     }
 
--- An engine is open: it has served nobody, its layer is one around the server that was set up, an
--- outbox has room for as much as was set up, and its wire listens where that was, and calls whom
--- that was to call, again by that spread.
-pub record IsOpened (setup : Setup) (engine : EngineViewOf MioWire Layer) : Type 0 where
-  pub layer : Layer
-  pub is_around : IsAround setup.server setup.plain.items layer
+-- What serves: a door in front of a layer around a server.
+abbrev pub Front : Type 0
+Front = Door Layer
+
+abbrev pub front_server : Front → Option View
+front_server = server_behind server_of
+
+abbrev pub IsAnswered : Handles Front
+IsAnswered = IsTurned IsLayered
+
+-- An engine is open: it has served nobody, its door says to clients what was set up, in front of a
+-- layer around the server that was, an outbox has room for as much as was set up, and its wire
+-- listens where that was, and calls whom that was to call, again by that spread.
+pub record IsOpened (setup : Setup) (engine : EngineViewOf MioWire Front) : Type 0 where
+  pub door : Front
+  pub programs : door.programs ≡ setup.programs
+  pub is_around : IsAround setup.server setup.plain.items door.machine
   pub sockets : MioWire
   pub listens : ListensAt (listening_of setup) sockets
   pub callees : sockets.calls.asked ≡ setup.callees
   pub spread : sockets.calls.retries.spread ≡ setup.spread
-  pub is_new : IsNew layer sockets setup.client_room setup.link_room engine
+  pub is_new : IsNew door sockets setup.client_room setup.link_room engine
 
 -- None is: nothing was said; or that it cannot listen where clients, or servers, are to come.
 pub data IsUnopened (setup : Setup) (errors errors_after : Option (List ℕ)) : Type 0 where
@@ -198,21 +220,21 @@ pub data IsUnopened (setup : Setup) (errors errors_after : Option (List ℕ)) : 
   links_closed : (address : SocketAddr) → setup.links ≡ Some address
       → SaysClosed address errors errors_after → IsUnopened setup errors errors_after
 
--- so many turns of an engine with a layer, with what is said behind each
-abbrev pub LayeredTurns : {W : Type 0} → (W → List Call → Type 0) → EngineViewOf W Layer
-    → Option (List ℕ) → ℕ → EngineViewOf W Layer → Option (List ℕ) → Type 0
-LayeredTurns is_after old held turns new after =
-    ToldTurnsBy is_after server_of IsLayered never_due old held turns new after
+-- so many turns of an engine with them, with what is said behind each
+abbrev pub FrontTurns : {W : Type 0} → (W → List Call → Type 0) → EngineViewOf W Front
+    → Option (List ℕ) → ℕ → EngineViewOf W Front → Option (List ℕ) → Type 0
+FrontTurns is_after old held turns new after =
+    ToldTurnsBy is_after front_server IsAnswered never_due old held turns new after
 
 -- `ready` was printed, all turns were taken, and behind each what there was to tell was said; else
 -- a front of `ready` was printed, the program failed, and what was said is lines of the journal
-abbrev pub Serves : {W : Type 0} → (W → List Call → Type 0) → ℕ → EngineViewOf W Layer
-    → EngineViewOf W Layer
+abbrev pub Serves : {W : Type 0} → (W → List Call → Type 0) → ℕ → EngineViewOf W Front
+    → EngineViewOf W Front
     → Option (List ℕ) → Option (List ℕ) → Option (List ℕ) → Option (List ℕ) → Result (Unit {0}) Stop
     → Type 0
 Serves is_after turns old new printed printed_after errors errors_after (Ok _) =
     Appends printed printed_after ready_text
-    × LayeredTurns is_after old errors turns new errors_after
+    × FrontTurns is_after old errors turns new errors_after
 Serves is_after turns old new printed printed_after errors errors_after (Err Failed) =
     Wrote printed printed_after ready_text × AreSomeSaid errors errors_after
 Serves is_after turns old new printed printed_after errors errors_after (Err BadConfiguration) = ⊥
@@ -238,11 +260,11 @@ pub record IsServed (text : List ℕ) (turns : ℕ)
     (printed printed_after errors errors_after : Option (List ℕ)) : Type 0 where
   pub setup : Setup
   pub is_text_of : IsTextOf text setup
-  pub first : EngineViewOf MioWire Layer
-  pub last : EngineViewOf MioWire Layer
+  pub first : EngineViewOf MioWire Front
+  pub last : EngineViewOf MioWire Front
   pub is_opened : IsOpened setup first
   pub is_ready : Appends printed printed_after ready_text
-  pub taken : LayeredTurns (λ wire calls. ⊤) first errors turns last errors_after
+  pub taken : FrontTurns (λ wire calls. ⊤) first errors turns last errors_after
 
 -- How serving by a text ends: anything was printed or said only where the text sets up a server; a
 -- bad text is refused, and nothing printed or said.
@@ -257,8 +279,8 @@ ServesText text turns (Err Failed) printed printed_after errors errors_after =
 ServesText text turns (Err Usage) printed printed_after errors errors_after = ⊥
 ServesText text turns (Err (BadScript line)) printed printed_after errors errors_after = ⊥
 
--- the same of any text: a front of `ready` was printed, and what was said is of the journal; or nothing
--- was, and what was said is of an address
+-- the same of any text: a front of `ready` was printed, and what was said is of the journal; or
+-- nothing was, and what was said is of an address
 pub data IsFailed (printed printed_after errors errors_after : Option (List ℕ)) : Type 0 where
   failed_serving : Wrote printed printed_after ready_text → AreSomeSaid errors errors_after
       → IsFailed printed printed_after errors errors_after

@@ -9,6 +9,7 @@ ghost use Rattle.ircd.specs.Serving.{ServesFile, ServesText};
 
 use crate::closed_door::say_closed;
 use crate::setup::{Setup, read_setup};
+use irc_door::Door;
 use irc_endings::{Stop, say_ready};
 use irc_engine::Engine;
 use irc_layer::Layer;
@@ -77,7 +78,7 @@ fn open<T: Net, E: Write>(
     alloc: Global,
     setup: Setup,
     errors: &mut E,
-) -> Result<Engine<MioWire, Layer>, Stop>
+) -> Result<Engine<MioWire, Door<Layer>>, Stop>
     requires { HasNobody setup.server }
     ensures { Opens setup result (E.contents errors.old) (E.contents errors.new) }
 {
@@ -97,7 +98,8 @@ fn open<T: Net, E: Write>(
         Err(fault) => return Err(stop_for(fault, errors)),
     };
     let layer = Layer::new(alloc, setup.server, setup.plain);
-    let engine = Engine::new(alloc, layer, wire, setup.client_room, setup.link_room)?;
+    let door = Door::new(alloc, layer, setup.programs);
+    let engine = Engine::new(alloc, door, wire, setup.client_room, setup.link_room)?;
     Ok(engine)
 }
 
@@ -118,7 +120,7 @@ fn stop_for<E: Write>(fault: ListenFault, errors: &mut E) -> Stop
 
 /// Says `ready`, and takes so many turns.
 fn run_engine<W: Wire, O: Write, E: Write>(
-    engine: &mut Engine<W, Layer>,
+    engine: &mut Engine<W, Door<Layer>>,
     turns: u64,
     output: &mut O,
     errors: &mut E,
@@ -133,7 +135,7 @@ fn run_engine<W: Wire, O: Write, E: Write>(
 
 /// Takes so many turns, up to the first that is not done: it is the last, and the program fails.
 fn take_turns<W: Wire, E: Write>(
-    engine: &mut Engine<W, Layer>,
+    engine: &mut Engine<W, Door<Layer>>,
     turns: u64,
     errors: &mut E,
 ) -> Result<(), Stop>

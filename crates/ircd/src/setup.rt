@@ -4,10 +4,11 @@ ghost use Rattle.std.specs.Prelude.{option_to_list, string_bytes};
 ghost use Rattle.irc_stage.specs.View.{known_peer};
 ghost use Rattle.irc_turns.specs.Spreads.{name_spread};
 ghost use Rattle.ircd.specs.Serving.{Configures, IsReadSetup, SetsUp, pace_set, peer_set};
-ghost use Rattle.ircd.specs.Serving.{plain_name, plain_names};
+ghost use Rattle.ircd.specs.Serving.{plain_name, plain_names, programs_set};
 ghost use Rattle.ircd.specs.Loops.SettingUp.{FindsAddress, FindsCallee, FindsCallees, FindsName};
 ghost use Rattle.ircd.specs.Loops.SettingUp.{FindsOptional};
 
+use irc_door::Programs;
 use irc_endings::Stop;
 use irc_names::ServerName;
 use irc_routes::Own;
@@ -46,6 +47,8 @@ pub struct Setup {
     pub register_within: Option<u16>,
     /// How many lines of a client are taken, if there is a limit.
     pub pace: Option<LinesPace>,
+    /// What clients are told beside the profile.
+    pub programs: Programs,
     /// How many bytes may wait for a client.
     pub client_room: usize,
     /// How many bytes may wait for a link.
@@ -80,9 +83,21 @@ fn set_up(alloc: Global, settings: &Settings) -> Result<Setup, Stop>
         links_per_address: settings.links_per_address,
         register_within: settings.register_within,
         pace: pace(settings),
+        programs: programs(settings.programs),
         client_room: settings.client_room,
         link_room: settings.link_room,
     })
+}
+
+/// What clients are told beside the profile.
+fn programs(are_asked_for: bool) -> Programs
+    ensures { result ≡ programs_set are_asked_for }
+{
+    if are_asked_for {
+        Programs::Usual
+    } else {
+        Programs::Off
+    }
 }
 
 /// To which pace of lines clients keep, if to one.

@@ -4,15 +4,14 @@ use Rattle.irc_outbox.specs.Calls.{Call}
 use Rattle.irc_sockets.specs.declared.mio_wire.MioWire.{MioWire}
 use Rattle.irc_engine.specs.declared.engine.Engine.{Engine}
 use Rattle.irc_engine.specs.EngineView.{EngineViewOf, engine_view}
-use Rattle.irc_layer.specs.declared.layer.Layer.{Layer}
 use Rattle.irc_journal.specs.Saying.{AreSomeSaid}
 use Rattle.irc_endings.specs.declared.fault.Stop.{Stop}
 use Rattle.irc_endings.specs.declared.fault.Stop.TheVariants.{BadConfiguration, Failed}
 use Rattle.ircd.specs.declared.setup.Setup.{Setup}
-use Rattle.ircd.specs.Serving.{IsOpened, IsUnopened, LayeredTurns, Serves}
+use Rattle.ircd.specs.Serving.{Front, IsOpened, IsUnopened, FrontTurns, Serves}
 
 -- what was set up is open, and nothing was said; or the program failed
-abbrev pub Opens : {g : _} → Setup → Result (Engine MioWire Layer g) Stop
+abbrev pub Opens : {g : _} → Setup → Result (Engine MioWire Front g) Stop
     → (errors errors_after : Option (List ℕ)) → Type 0
 Opens setup (Ok engine) errors errors_after =
     IsOpened setup (engine_view engine) × (errors_after ≡ errors)
@@ -20,16 +19,16 @@ Opens setup (Err stop) errors errors_after = (stop ≡ Failed) × IsUnopened set
 
 -- all of so many turns were taken, or one was not, and the program failed; what was said is of
 -- links
-abbrev pub TakesTurns : {W : Type 0} → (W → List Call → Type 0) → EngineViewOf W Layer → ℕ
-    → EngineViewOf W Layer → Option (List ℕ) → Option (List ℕ) → Result (Unit {0}) Stop → Type 0
+abbrev pub TakesTurns : {W : Type 0} → (W → List Call → Type 0) → EngineViewOf W Front → ℕ
+    → EngineViewOf W Front → Option (List ℕ) → Option (List ℕ) → Result (Unit {0}) Stop → Type 0
 TakesTurns is_after old turns new errors errors_after (Ok _) =
-    LayeredTurns is_after old errors turns new errors_after
+    FrontTurns is_after old errors turns new errors_after
 TakesTurns is_after old turns new errors errors_after (Err stop) =
     (stop ≡ Failed) × AreSomeSaid errors errors_after
 
 -- how serving by an engine ends, once it is open
 abbrev pub IsRun : {W : Type 0} {g : _} → (W → List Call → Type 0) → ℕ
-    → (old new : Engine W Layer g)
+    → (old new : Engine W Front g)
     → (printed printed_after errors errors_after : Option (List ℕ)) → Result (Unit {0}) Stop
     → Type 0
 IsRun is_after turns old new printed printed_after errors errors_after result =

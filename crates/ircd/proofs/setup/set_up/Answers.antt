@@ -50,6 +50,7 @@ returns c = record {
   links_per_address = refl;
   register_within = refl;
   pace = c.pace.ensures;
+  programs = c.programs.ensures;
   client_room = refl;
   link_room = refl;
 }
