@@ -690,7 +690,8 @@ def asks_of_what_has_ended(peer, al):
     peer.says(count, ":ww JOIN #gone")
     is_asked = peer.sees("^(TELL .*|:a.net .*)$") == "TELL #gone"
     peer.says("TELL #den")
-    return is_asked and "ally" in peer.sees("^:a.net NJOIN #den :") and peer.sees("^:a.net TOPIC #den :").endswith("zz")
+    is_spelled = peer.sees("^:a.net NJOIN #den :") == ":a.net NJOIN #den :"
+    return is_asked and is_spelled and "ally" in peer.sees("^:a.net NJOIN #den :.") and peer.sees("^:a.net TOPIC #den :").endswith("zz")
 
 
 def doors(program):
