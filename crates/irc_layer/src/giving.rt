@@ -187,7 +187,6 @@ impl Layer {
     fn spell(&mut self, link: u64, line: Option<Text>, out: &mut Batch) -> Result<(), AllocError>
         ensures spells { OnOk result (state_of self.new out.new
             ≡ spelling link (option_map bytes_of line) (state_of self.old out.old)) }
-        ensures server { self.new.server ≡ self.old.server }
         ensures connected { OnOk result (IsStillConnected self.old.server out.old.outs
             self.new.server out.new.outs) }
     {

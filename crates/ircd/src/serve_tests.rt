@@ -313,6 +313,23 @@ static ROWS: [ServeRow; 39] = [
         output: b"",
         errors: BAD,
     },
+    // clients are told what their programs expect, and that by a word
+    ServeRow {
+        room: ROOM,
+        more: "programs = true\n",
+        words: &["serve", FILE, "0"],
+        status: 0,
+        output: READY,
+        errors: b"",
+    },
+    ServeRow {
+        room: ROOM,
+        more: "programs = \"usual\"\n",
+        words: &["serve", FILE, "0"],
+        status: 3,
+        output: b"",
+        errors: BAD,
+    },
     // no limit of those who do not name themselves, and more than the most
     ServeRow {
         room: ROOM,
