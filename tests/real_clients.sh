@@ -1,7 +1,7 @@
 #!/bin/bash
 # Drives `ircd serve` on loopback with four real clients of Debian's packages: irssi, ii, weechat and sic. In each of two pairs one makes
 # a room and the other joins it; they talk, a topic is set, one is kicked, comes back, parts, comes back and quits; each screen has to show it.
-# The program is crates/ircd/out/ircd (`./ircd build` makes it), or what IRCD names. Clients that are missing are installed by apt-get.
+# The program is crates/ircd/out/ircd (`./ircd build` makes it), or what IRCD names; PROGRAMS=true has it say what programs expect. Clients that are missing are installed by apt-get.
 # Exit status: 0 where every screen showed what it had to, 1 where one did not.
 set -u
 
@@ -19,6 +19,7 @@ created = "2024-01-01"
 listen = "127.0.0.1:$port"
 client_room = 65536
 link_room = 65536
+programs = ${PROGRAMS:-false}
 TOML
 serve "$work/server.toml"
 

@@ -1,0 +1,180 @@
+#!/usr/bin/env python3
+"""What `programs = true` of `ircd serve` does, by lines and by two real programs.
+
+    tests/programs.py PROGRAM
+
+Two daemons, of which one has the key: each row says a line to both, and wants what the page "With `programs`" of docs/PROFILE.md has of the one,
+and the page without it of the other. Then pydle (python3-pydle) and Net::Async::IRC (libnet-async-irc-perl), where they are installed, are each
+in a channel whose modes another client sets and takes away: behind that they have to know which are set. Exit status: 1 where something differs.
+"""
+import contextlib
+import importlib.util
+import pathlib
+import shutil
+import socket
+import subprocess
+import sys
+import tempfile
+import time
+
+FILE = """name = "a.net"
+info = "A"
+created = "2026-11-30"
+listen = "127.0.0.1:{port}"
+client_room = 65536
+link_room = 65536
+programs = {programs}
+"""
+SUPPORTED = ("CASEMAPPING=rfc1459 CHANTYPES=# PREFIX=(ov)@+ CHANMODES=b,k,l,imnpst MODES=3 NICKLEN=30 CHANNELLEN=50 TOPICLEN=160 KICKLEN=160 MAXLIST=b:30 "
+             "CHANLIMIT=#:10 TARGMAX=JOIN:,PART:,KICK:,LIST:,WHOIS:,PRIVMSG:4,NOTICE:4 :are supported by this server")
+# what is said, and what of the answer has to be there: without the key, and with it
+ROWS = (
+    ("VERSION", ":a.net 421 al VERSION :Unknown command", ":a.net 351 al treeircd-1 a.net :RFC 2811, 2812 and 2813 in a profile"),
+    ("INVITE bo #c", ":a.net 341 al #c bo", ":a.net 341 al bo #c"),
+    ("AWAY :x", ":a.net 421 al AWAY :Unknown command", ":a.net 421 al AWAY :Unknown command"),
+    ("NICK ally", ":al!u@127.0.0.1 NICK ally", ":al!u@127.0.0.1 NICK :ally"),
+)
+# a topic and a text of letters of two bytes, behind one of one byte: as they come to another client
+CUT = ("TOPIC #c :x" + "\u044f" * 100, "PRIVMSG #c :x" + "\u044f" * 300)
+MODES = ("+imns", "-i+t", "-s+p", "-m")
+
+
+class Client:
+    def __init__(self, port, nick):
+        self.socket, self.seen = socket.create_connection(("127.0.0.1", port)), b""
+        self.says(f"NICK {nick}", f"USER u 0 * :{nick}", "PING ready")
+        self.until(b"PONG a.net :ready")
+
+    def says(self, *lines):
+        self.socket.sendall("".join(line + "\r\n" for line in lines).encode())
+
+    def until(self, end):
+        """All lines up to one that ends so."""
+        self.socket.settimeout(5)
+        while not any(line.endswith(end) for line in self.seen.split(b"\r\n")):
+            self.seen += self.socket.recv(65536)
+        lines, self.seen = self.seen.split(b"\r\n")[:-1], b""
+        return lines
+
+    def answered(self, line):
+        self.says(line, "PING done")
+        return self.until(b"PONG a.net :done")
+
+
+@contextlib.contextmanager
+def daemon(program, port, programs):
+    with tempfile.TemporaryDirectory() as folder:
+        file = pathlib.Path(folder, "a.toml")
+        file.write_text(FILE.format(port=port, programs=str(programs).lower()))
+        process = subprocess.Popen([program, "serve", file], stdout=subprocess.PIPE, stderr=subprocess.DEVNULL)
+        try:
+            process.stdout.readline()
+            yield
+        finally:
+            process.kill()
+            process.wait()
+
+
+def told(name, is_so):
+    print("ok  " if is_so else "FAIL", name)
+    return is_so
+
+
+def lines_are_right(program, port, programs):
+    with daemon(program, port, programs):
+        al, bo = Client(port, "al"), Client(port, "bo")
+        greeting = Client(port, "zed").answered("LUSERS")
+        al.answered("JOIN #c")
+        bo.answered("JOIN #c")
+        result = [told(f"programs {programs}: {line}", answer.encode() in al.answered(line)) for line, *answers in ROWS for answer in [answers[programs]]]
+        del greeting
+        for line in CUT:
+            al.answered(line)
+            text = b"\n".join(bo.answered("PING x"))
+            result.append(told(f"programs {programs}: whole letters of {line[:9]}", is_utf8(text) == programs))
+        return all(result)
+
+
+def welcome_is_right(program, port, programs):
+    with daemon(program, port, programs):
+        client = socket.create_connection(("127.0.0.1", port))
+        client.sendall(b"NICK al\r\nUSER u 0 * :Al\r\nPING ready\r\n")
+        text = b""
+        while b"PONG a.net :ready" not in text:
+            text += client.recv(65536)
+        lines = text.decode().split("\r\n")
+        has_it = f":a.net 005 al {SUPPORTED}" == lines[lines.index(next(line for line in lines if " 004 " in line)) + 1]
+        return told(f"programs {programs}: 005 behind 004", has_it == programs)
+
+
+def is_utf8(text):
+    try:
+        return bool(text.decode())
+    except UnicodeDecodeError:
+        return False
+
+
+PYDLE = """
+import asyncio, sys, pydle
+class Bot(pydle.Client):
+    async def on_connect(self):
+        await self.join("#c")
+    async def on_message(self, target, source, message):
+        if message == "tell":
+            modes = self.channels["#c"]["modes"]
+            print(",".join(sorted(mode for mode, value in modes.items() if value and mode not in "ov")), flush=True)
+            await self.quit()
+            sys.exit()
+loop = asyncio.new_event_loop()
+asyncio.set_event_loop(loop)
+bot = Bot("bot", realname="Bot", eventloop=loop)
+loop.run_until_complete(bot.connect("127.0.0.1", int(sys.argv[1]), tls=False))
+loop.run_forever()
+"""
+PERL = r"""
+use strict; use IO::Async::Loop; use Net::Async::IRC;
+my $loop = IO::Async::Loop->new; my $irc;
+$irc = Net::Async::IRC->new(
+    on_message_MODE => sub { print "mode\n" },
+    on_message_text => sub { my ($self, $message, $hints) = @_; if ($hints->{text} eq "tell") { print "alive\n"; exit } 1 },
+);
+$loop->add($irc);
+$irc->login(nick => "bot", host => "127.0.0.1", service => $ARGV[0])->get;
+$irc->do_JOIN(target => "#c")->get; $loop->run;
+"""
+
+
+def asks(program, port, programs, command):
+    """What a program prints that is in a channel, as its modes change, and is then asked."""
+    with daemon(program, port, programs):
+        al = Client(port, "al")
+        al.answered("JOIN #c")
+        process = subprocess.Popen([*command, str(port)], stdout=subprocess.PIPE, stderr=subprocess.DEVNULL, text=True)
+        for _ in range(50):
+            time.sleep(.1)
+            if any(b"bot" in line for line in al.answered("NAMES #c")):
+                break
+        for modes in MODES:
+            al.answered(f"MODE #c {modes}")
+        time.sleep(.5)
+        al.says("PRIVMSG #c :tell")
+        try:
+            return process.communicate(timeout=5)[0].split()
+        except subprocess.TimeoutExpired:
+            process.kill()
+            return []
+
+
+def main(program):
+    result = [check(program, 16720 + programs, programs) for check in (welcome_is_right, lines_are_right) for programs in (False, True)]
+    if importlib.util.find_spec("pydle"):
+        print("     pydle without the key:", *asks(program, 16722, False, [sys.executable, "-c", PYDLE]))
+        result.append(told("pydle: n, p and t are set", asks(program, 16723, True, [sys.executable, "-c", PYDLE]) == ["n,p,t"]))
+    if shutil.which("perl") and not subprocess.run(["perl", "-MNet::Async::IRC", "-e", "1"], stderr=subprocess.DEVNULL).returncode:
+        print("     Net::Async::IRC without the key:", *asks(program, 16724, False, ["perl", "-e", PERL]))
+        result.append(told("Net::Async::IRC: alive behind MODE", "alive" in asks(program, 16725, True, ["perl", "-e", PERL])))
+    return 0 if all(result) else 1
+
+
+if __name__ == "__main__":
+    sys.exit(main(sys.argv[1]))
