@@ -1,42 +1,54 @@
 -- What is due of a door, by what is due of its machine.
-use Rattle.std.proofs.Common.{◌≡◌, ◌<◌, ℕ, true, Result, Ok, Err, List, [], ◌++◌, length, refl, sym}
-use Rattle.std.proofs.Common.{◌∙◌, ap, append-nil}
+use Rattle.std.proofs.Common.{◌≡◌, ◌≢◌, ℕ, true, Result, Ok, Err, IsErrAnd, List, [], ◌++◌}
+use Rattle.std.proofs.Common.{length, refl, sym, ◌∙◌, ap, append-nil, subst}
 use Rattle.irc_batch.specs.Batches.{Sent}
 use Rattle.irc_server.specs.declared.event.ServerFault.{ServerFault}
 use Rattle.irc_server.specs.declared.event.ServerFault.TheVariants.{Memory}
 use Rattle.irc_engine.specs.Machines.{is_out_of_memory, due_by, never_due, Dues, IsDue}
 use Rattle.irc_door.specs.declared.door.Door.{Door}
+use Rattle.irc_door.specs.declared.door.Programs.{Programs}
 use Rattle.irc_door.specs.Doors.{dues_by, has_no_memory, said_by, says_due}
 use Rattle.irc_door.proofs.Said.{said_nothing}
 
-module _ {M : Type 0} (old : Door M) (moment : ℕ) (before : List Sent) where
-  -- it is done, and said
-  pub done : (dues : Dues M) (machine : M) (after outs : List Sent)
-      → IsDue dues old.machine moment [] (Ok tt) machine outs
-      → after ≡ before ++ said_by old.programs outs
-      → IsDue (dues_by dues) old moment before (Ok tt) (record old { machine = machine }) after
-  done never_due machine after outs so said = (
-    refl,
-    λ i. record old { machine = so.1.0 i },
-    said ∙ ap (λ s. before ++ s) (said_nothing old.programs outs so.1.1) ∙ append-nil before,
-  )
-  done (due_by is_due) machine after outs so said = says_due outs so refl said
+pub nothing_more : (programs : Programs) (before outs : List Sent) → outs ≡ []
+    → before ≡ before ++ said_by programs outs
+nothing_more programs before outs none =
+    sym (ap (λ s. before ++ s) (said_nothing programs outs none) ∙ append-nil before)
 
-  -- the machine has no memory
-  pub failed : (dues : Dues M) (machine : M) (new : Door M) (outs after : List Sent)
-      (fault : ServerFault) → IsDue dues old.machine moment [] (Err fault) machine outs
-      → is_out_of_memory fault ≡ true
-      → IsDue (dues_by dues) old moment before (Err fault) new after
-  failed never_due machine new outs after fault so none = cc so.0
-  failed (due_by is_due) machine new outs after fault so none = has_no_memory fault none
+module _ {M : Type 0} (old : Door M) (moment : ℕ) (before held : List Sent) (none : held ≡ [])
+  where
+    -- it is done, and said
+    pub done : (dues : Dues M) (machine : M) (after outs : List Sent)
+        → IsDue dues old.machine moment held (Ok tt) machine outs
+        → after ≡ before ++ said_by old.programs outs
+        → IsDue (dues_by dues) old moment before (Ok tt) (record old { machine = machine }) after
+    done never_due machine after outs so said = (
+      refl,
+      λ i. record old { machine = so.1 i },
+      said ∙ sym (nothing_more old.programs before outs (so.2 ∙ none)),
+    )
+    done (due_by is_due) machine after outs so said =
+        says_due outs (subst (λ h. is_due old.machine moment h (Ok tt) machine outs) none so) refl
+        said
 
-  -- there is none for what it says
-  pub unsaid : (dues : Dues M) (machine : M) (new : Door M) (outs after : List Sent)
-      → IsDue dues old.machine moment [] (Ok tt) machine outs → 0 < length outs
-      → IsDue (dues_by dues) old moment before (Err Memory) new after
-  unsaid never_due machine new outs after so some = absurd (nothing_less outs so.1.1 some)
-    where
-      nothing_less : (outs : List Sent) → outs ≡ [] → 0 < length outs → 1 ≡ 0
-      nothing_less [] none some = absurd (omega arith)
-      nothing_less (o ∷ outs) none some = cc none
-  unsaid (due_by is_due) machine new outs after so some = has_no_memory Memory refl
+    -- the machine has no memory
+    pub failed : (dues : Dues M) (r : Result (Unit {0}) ServerFault) (machine : M) (new : Door M)
+        (outs after : List Sent) (fault : ServerFault)
+        → IsDue dues old.machine moment held (Err fault) machine outs
+        → is_out_of_memory fault ≡ true → IsErrAnd r (λ f. f ≡ fault)
+        → IsDue (dues_by dues) old moment before r new after
+    failed dues (Ok _) machine new outs after fault so gone is = absurd is
+    failed never_due (Err f) machine new outs after fault so gone is = cc so.0
+    failed (due_by is_due) (Err f) machine new outs after fault so gone is =
+        has_no_memory f (ap is_out_of_memory is ∙ gone)
+
+    -- there is none for what it says
+    pub unsaid : (dues : Dues M) (r : Result (Unit {0}) ServerFault) (machine : M) (new : Door M)
+        (outs after : List Sent) → IsDue dues old.machine moment held (Ok tt) machine outs
+        → length outs ≢ 0 → IsErrAnd r (λ f. f ≡ Memory)
+        → IsDue (dues_by dues) old moment before r new after
+    unsaid dues (Ok _) machine new outs after so some is = absurd is
+    unsaid never_due (Err f) machine new outs after so some is =
+        absurd (some (ap length (so.2 ∙ none)))
+    unsaid (due_by is_due) (Err f) machine new outs after so some is =
+        has_no_memory f (ap is_out_of_memory is)

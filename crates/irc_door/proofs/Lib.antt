@@ -1,4 +1,6 @@
 pub mod Cutting
 pub mod Due
 pub mod Examples
+pub mod Handled
+pub mod Places
 pub mod Said

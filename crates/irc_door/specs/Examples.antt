@@ -1,5 +1,5 @@
 -- Texts for clients, and what is written: the examples of `Turning.antt` and `Letters.antt`.
-use Rattle.std.specs.Prelude.{◌≡◌, ℕ, Some, List, [], ◌∷◌, ◌++◌, codes}
+use Rattle.std.specs.Prelude.{◌≡◌, ℕ, List, [], ◌∷◌, ◌++◌, codes}
 use Rattle.irc_line.specs.Bytes.{crlf}
 use Rattle.irc_numerics.specs.declared.replies.Reply.TheVariants.{MyInfo}
 use Rattle.irc_numerics.specs.Replies.{bare, table}

@@ -74,9 +74,10 @@ impl<M: Machine> Machine for Door<M> {
     fn due(&mut self, moment: Moment, out: &mut Batch) -> Result<(), ServerFault> {
         let mut held = Batch::new(self.alloc);
         self.machine.due(moment, &mut held)?;
-        if held.len() > 0 {
-            put_said(self.programs, &mut held, out)?;
+        if held.len() == 0 {
+            return Ok(());
         }
+        put_said(self.programs, &mut held, out)?;
         Ok(())
     }
 

@@ -1,5 +1,5 @@
 //! What a machine puts out is said as programs expect it.
-ghost use Rattle.std.specs.Prelude.{◌≡◌, ◌++◌, ◌<◌, ◌≤◌, length, OnOk};
+ghost use Rattle.std.specs.Prelude.{◌≡◌, ◌++◌, ◌+◌, ◌<◌, ◌≤◌, drop, length, OnOk};
 ghost use Rattle.irc_line.specs.Limits.{max_text};
 ghost use Rattle.irc_batch.specs.Batches.{line_to, sent_of, IsText};
 ghost use Rattle.irc_door.specs.Doors.{all_said, said, to_client};

@@ -179,7 +179,8 @@ impl Layer {
             self.new.server out.new.outs) }
     {
         let lines = told_of(self.alloc, &self.server, channel)?;
-        self.spell(link, spelled_of(&self.server, channel), out)?;
+        let spelled = spelled_of(&self.server, channel);
+        self.spell(link, spelled, out)?;
         self.put_out(BY_TELLING, link, lines.as_slice(), out)
     }
 

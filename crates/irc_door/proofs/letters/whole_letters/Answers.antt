@@ -1,4 +1,4 @@
-use Rattle.std.proofs.Common.{◌≡◌, ◌∙◌, ℕ, List, Bor, Result, Ok, ap, drop, subst, sym}
+use Rattle.std.proofs.Common.{◌∙◌, ap, drop, sym}
 use Rattle.std.specs.Str.Lossy.{utf8_error_len}
 use Rattle.irc_door.proofs.Cutting.{is_cut, is_other, is_whole, well_formed}
 use Rattle.irc_door.proofs.letters.whole_letters.Goals as goal

@@ -1,0 +1,8 @@
+use Rattle.std.proofs.Common.{◌≡◌, ◌++◌, drop}
+use Rattle.irc_door.specs.Doors.{all_said}
+use Rattle.irc_door.proofs.saying.say_all.Given as goal
+
+-- what is said so far, with what is still to be said, is all
+abbrev pub invariant-loop-place : goal.invariant-loop-place
+invariant-loop-place l = l.out.outs ++ all_said (drop l.place l.held.outs)
+    ≡ l.initial.out.outs ++ all_said l.held.outs
