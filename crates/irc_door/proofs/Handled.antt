@@ -1,6 +1,6 @@
 -- What comes of an event that a door is asked for, by what comes of it for its machine.
-use Rattle.std.proofs.Common.{◌≡◌, Option, Result, Ok, Err, IfErr, IsErrAnd, List, [], ◌++◌, refl, sym}
-use Rattle.std.proofs.Common.{subst}
+use Rattle.std.proofs.Common.{◌≡◌, Option, Result, Ok, Err, IfErr, IsErrAnd, List, [], ◌++◌, refl}
+use Rattle.std.proofs.Common.{sym, subst}
 use Rattle.irc_batch.specs.Batches.{Sent}
 use Rattle.irc_stage.specs.View.{View}
 use Rattle.irc_server.specs.declared.event.Event.{Event}
