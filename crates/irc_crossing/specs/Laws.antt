@@ -1,16 +1,18 @@
 -- What holds of lines that cross, whatever is in the log and whatever comes.
 use Rattle.std.specs.Prelude.{◌≡◌, ℕ, Bool, true, false, ◌||◌, Option, Some, None, Ok}
-use Rattle.std.specs.Prelude.{List, [], ◌∷◌}
+use Rattle.std.specs.Prelude.{List, [], ◌∷◌, length}
 use Rattle.std.specs.Bool.{⊤}
 use Rattle.std.specs.Option.{option_and_then, option_map_or}
 use Rattle.irc_line.specs.Messages.{Parsed}
 use Rattle.irc_line.specs.Reading.{read_of}
 use Rattle.irc_names.specs.Fold.{same}
 use Rattle.irc_names.specs.Names.{is_nick}
+use Rattle.irc_crossing.specs.Asking.{asked}
 use Rattle.irc_crossing.specs.Changes.{crossed, member_now, nick_now, taken_by}
 use Rattle.irc_crossing.specs.Hearing.{given, log_after}
 use Rattle.irc_crossing.specs.Lines.{is_kick_line, is_mode_line, is_nick_line, is_topic_line}
 use Rattle.irc_crossing.specs.Logs.{means}
+use Rattle.irc_crossing.specs.Raising.{raises}
 use Rattle.irc_crossing.specs.declared.change.Change.{Change}
 use Rattle.irc_crossing.specs.declared.change.Change.TheVariants.{Come, Rename, Go, Out, Join, Set}
 use Rattle.irc_crossing.specs.declared.hearing.Given.TheVariants.{AsItCame, LeftOut}
@@ -26,6 +28,21 @@ NothingIsChanged =
 -- and the log stays empty.
 abbrev pub NothingIsLogged : Type 0
 NothingIsLogged = (line : List ℕ) → log_after [] line ≡ []
+
+-- Nothing is asked for,
+abbrev pub NothingIsAsked : Type 0
+NothingIsAsked =
+    (peer : List ℕ) (is_held : Bool) (line : List ℕ) → asked [] peer is_held line ≡ None
+
+-- and what a server raises is for the server to take.
+abbrev pub NothingIsRaised : Type 0
+NothingIsRaised = (line : List ℕ) → raises [] line ≡ false
+
+-- ---- how long a log is
+
+-- No line that comes makes a log longer: of each change that was put out one is left, or none.
+abbrev pub LogsStayAsLong : Type 0
+LogsStayAsLong = (log : List Entry) (line : List ℕ) → length (log_after log line) ≡ length log
 
 -- ---- nicknames, by the first change of a log
 

@@ -15,15 +15,24 @@ ghost use Rattle.irc_crossing.specs.Examples.{KilledIsFollowed, LetterIsLeftOut,
 ghost use Rattle.irc_crossing.specs.Examples.{MetIsGiven, MetIsKilled, ModeIsLeftOut};
 ghost use Rattle.irc_crossing.specs.Examples.{NextIsSpared, PartIsLeftOut, TextIsLeftOut};
 ghost use Rattle.irc_crossing.specs.Laws.{BothEndsAgree, ComersAreOthers, NamesAreFollowed};
-ghost use Rattle.irc_crossing.specs.Laws.{NothingIsChanged};
+ghost use Rattle.irc_crossing.specs.Laws.{LogsStayAsLong, NothingIsAsked, NothingIsChanged};
+ghost use Rattle.irc_crossing.specs.Laws.{NothingIsRaised};
 ghost use Rattle.irc_crossing.specs.Laws.{NewcomersAgree, NothingIsLogged, TakersAreOthers};
 ghost use Rattle.irc_crossing.specs.Laws.{TwoToOneNameGo};
 ghost use Rattle.irc_crossing.specs.Laws.{WhoIsGoneIsLeftOut};
 
-/// Where nothing has crossed, a line is given as it came, and the log stays empty.
+/// Where nothing has crossed, a line is given as it came, nothing is asked for, what a server
+/// raises is for the server to take, and the log stays empty.
 pub fn nothing_crossed()
     ensures changed { NothingIsChanged }
+    ensures asked { NothingIsAsked }
+    ensures raised { NothingIsRaised }
     ensures logged { NothingIsLogged }
+{}
+
+/// No line that comes makes a log longer.
+pub fn logs_stay_as_long()
+    ensures { LogsStayAsLong }
 {}
 
 /// Whom the other end means by a nickname: who had it when it wrote, under the nickname now, and

@@ -1,3 +1,4 @@
+pub mod Bounds
 pub mod Connecting
 pub mod Examples
 pub mod Following
