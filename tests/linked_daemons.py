@@ -648,14 +648,15 @@ def counted(program):
         is_set = sets_what_is_marked(peer, al)
         is_greater = leaves_out_the_lesser(peer, al)
         is_asked = asks_of_what_has_ended(peer, al)
+        is_raised = raises_where_one_was_taken_out(peer, al)
         peer.says("COUNT 1000 1", ":ww PART #den :more than there were")
         is_closed = peer.ends()
         al.says("NICK al")
         bo.sees(" NICK :?al$")
-        return told("counted", greets and is_meant and is_told and is_set and is_greater and is_asked and is_closed and are_well(network, al, bo),
+        return told("counted", greets and is_meant and is_told and is_set and is_greater and is_asked and is_raised and is_closed and are_well(network, al, bo),
                     "it is answered with the word, al is told as ally what was said to al, 64 pieces behind the last count are counted, what is marked "
                     "is set and raises otherwise, of two topics at once the greater stays, a channel that has ended there is asked for and one that is there "
-                    "told of, and 1000 end the link")
+                    "told of, what a server raises counts where al has just kicked the one whom it brought, and 1000 end the link")
 
 
 def pieces_of(peer):
@@ -692,6 +693,18 @@ def asks_of_what_has_ended(peer, al):
     peer.says("TELL #den")
     is_spelled = peer.sees("^:a.net NJOIN #den :") == ":a.net NJOIN #den :"
     return is_asked and is_spelled and "ally" in peer.sees("^:a.net NJOIN #den :.") and peer.sees("^:a.net TOPIC #den :").endswith("zz")
+
+
+def raises_where_one_was_taken_out(peer, al):
+    """The peer brings ww to #hut and raises a key there, before it reads that al has kicked ww; a key that is less is none."""
+    al.says("JOIN #hut")
+    peer.sees(" JOIN :?#hut")
+    peer.says(f"COUNT {pieces_of(peer)} 1", ":w.net NJOIN #hut :ww")
+    al.sees(":ww!.* JOIN :?#hut")
+    al.says("KICK #hut ww :out")
+    peer.sees(" KICK #hut ww ")
+    peer.says(":w.net MODE #hut +k xx", ":w.net MODE #hut +nk a", ":w.net MODE #hut +k yy")
+    return [al.sees(":a.net MODE #hut ") for _ in range(3)] == [f":a.net MODE #hut {modes}" for modes in ("+k xx", "+n", "+k yy")]
 
 
 def doors(program):
