@@ -40,7 +40,7 @@ const READY: &[u8] = b"ready\n";
 /// The file that each configuration is written to.
 const FILE: &str = "serve_tests.toml";
 
-static ROWS: [ServeRow; 39] = [
+static ROWS: [ServeRow; 41] = [
     ServeRow {
         room: ROOM,
         more: "",
