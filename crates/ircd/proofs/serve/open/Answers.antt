@@ -1,3 +1,7 @@
+use Rattle.std.proofs.Common.{refl, subst, sym}
+use Rattle.ircd.specs.Serving.{Front}
+use Rattle.irc_layer.specs.declared.layer.Layer.{Layer}
+use Rattle.irc_layer.specs.Layers.{IsAround}
 use Rattle.ircd.proofs.Ready.{unopened_by}
 use Rattle.ircd.proofs.serve.open.Goals as goal
 
@@ -5,4 +9,21 @@ pub returns-in-Err : goal.returns-in-Err
 returns-in-Err g c = (
   c.stop_for.ensures.stop,
   unopened_by c.args.setup c.in-Err.fault _ _ c.in-Err.ensures.faults c.stop_for.ensures.said,
+)
+
+pub returns : goal.returns
+returns g c = (
+  record {
+    door = c.new-door.result;
+    programs = c.new-door.ensures.programs;
+    is_around = subst (λ (layer : Layer).
+        IsAround c.args.setup.server c.args.setup.plain.items layer)
+        (sym c.new-door.ensures.machine) c.new-layer.ensures;
+    sockets = c.in-Ok.wire;
+    listens = c.in-Ok.ensures.listens;
+    callees = c.in-Ok.ensures.callees;
+    spread = c.in-Ok.ensures.spread;
+    is_new = c.in_ok-engine.ensures;
+  },
+  refl,
 )
