@@ -1,5 +1,4 @@
 use Rattle.std.proofs.Common.{refl, subst, sym}
-use Rattle.ircd.specs.Serving.{Front}
 use Rattle.irc_layer.specs.declared.layer.Layer.{Layer}
 use Rattle.irc_layer.specs.Layers.{IsAround}
 use Rattle.ircd.proofs.Ready.{unopened_by}
