@@ -5,10 +5,11 @@ ghost use Rattle.irc_stage.specs.View.{known_peer};
 ghost use Rattle.irc_turns.specs.Spreads.{name_spread};
 ghost use Rattle.ircd.specs.Serving.{Configures, IsReadSetup, SetsUp, pace_set, peer_set};
 ghost use Rattle.ircd.specs.Serving.{plain_name, plain_names, programs_set};
-ghost use Rattle.ircd.specs.Loops.SettingUp.{FindsAddress, FindsCallee, FindsCallees, FindsName};
-ghost use Rattle.ircd.specs.Loops.SettingUp.{FindsOptional};
+ghost use Rattle.ircd.specs.Loops.SettingUp.{FindsAddress, FindsAsks, FindsCallee, FindsCallees};
+ghost use Rattle.ircd.specs.Loops.SettingUp.{FindsName, FindsOptional, FindsPassword};
 
 use irc_door::Programs;
+use irc_doorman::{Asks, ClientPassword};
 use irc_endings::Stop;
 use irc_names::ServerName;
 use irc_routes::Own;
@@ -49,6 +50,8 @@ pub struct Setup {
     pub pace: Option<LinesPace>,
     /// What clients are told beside the profile.
     pub programs: Programs,
+    /// What clients are asked.
+    pub asks: Asks,
     /// How many bytes may wait for a client.
     pub client_room: usize,
     /// How many bytes may wait for a link.
@@ -76,6 +79,7 @@ fn set_up(alloc: Global, settings: &Settings) -> Result<Setup, Stop>
         clients: address(settings.listen.as_str())?,
         links: optional_address(settings.listen_links.as_ref())?,
         server: Server::new(alloc, config(alloc, settings)?)?,
+        asks: asks(settings)?,
         plain: plain_names(alloc, &settings.peers)?,
         spread: own_spread(settings),
         connections_per_address: settings.connections_per_address,
@@ -97,6 +101,30 @@ fn programs(are_asked_for: bool) -> Programs
         Programs::Usual
     } else {
         Programs::Off
+    }
+}
+
+/// What clients are asked.
+fn asks(settings: &Settings) -> Result<Asks, Stop>
+    ensures { FindsAsks settings.now result }
+{
+    Ok(Asks {
+        server: server_name(settings.name.as_str())?,
+        password: client_password(settings.password.as_ref())?,
+        ping_after: settings.ping_after,
+    })
+}
+
+/// The password of clients that a text is, if there is a text.
+fn client_password(text: Option<&String>) -> Result<Option<ClientPassword>, Stop>
+    ensures { FindsPassword (option_map (λ text. string_bytes text.now) text.entry) result }
+{
+    let Some(text) = text else {
+        return Ok(None);
+    };
+    match ClientPassword::read(text.as_bytes()) {
+        Some(password) => Ok(Some(password)),
+        None => Err(Stop::BadConfiguration),
     }
 }
 
