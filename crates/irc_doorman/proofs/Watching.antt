@@ -15,7 +15,7 @@ use Rattle.irc_doorman.specs.Doormen.{AreAsked, IsWatched, State}
 module _ {M : Type 0} (old : Doorman M) (moment : ℕ) where
   -- nobody is ever asked
   pub none_silent : old.asks.ping_after ≡ None
-  → silent_at old.asks.ping_after old.next_look moment old.guests ≡ []
+      → silent_at old.asks.ping_after old.next_look moment old.guests ≡ []
   none_silent none = ap (λ seconds. silent_at seconds old.next_look moment old.guests) none
 
   module _ (seconds : ℕ) (some : old.asks.ping_after ≡ Some seconds) where
@@ -26,7 +26,7 @@ module _ {M : Type 0} (old : Doorman M) (moment : ℕ) where
     pub soon_silent : nat_lt moment old.next_look ≡ true
         → silent_at old.asks.ping_after old.next_look moment old.guests ≡ []
     soon_silent soon = ap (λ s. silent_at s old.next_look moment old.guests) some
-    ∙ ap silent_if soon
+        ∙ ap silent_if soon
 
 pub nobody_asked : {M : Type 0} (server_of : M → Option View) (handles : Handles M) (asks : Asks)
     (moment : ℕ) (conns : List ℕ) (state : State M) → conns ≡ []
