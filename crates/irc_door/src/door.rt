@@ -1,15 +1,14 @@
 //! A door in front of a machine.
-ghost use Rattle.std.specs.Prelude.{◌≡◌, ◌++◌, IfErr, OnOk};
+ghost use Rattle.std.specs.Prelude.{◌≡◌, IfErr};
 ghost use Rattle.irc_engine.specs.Machines.{IsConnectedBy, IsRefusal};
-ghost use Rattle.irc_door.specs.Doors.{said_by};
 
 use crate::manner::Manner;
-use crate::saying::say_all;
+use crate::saying::put_said;
 use irc_batch::Batch;
 use irc_engine::Machine;
 use irc_moments::Moment;
 use irc_server::{Event, Server, ServerFault};
-use std::alloc::{AllocError, Global};
+use std::alloc::Global;
 
 /// A door in front of a machine: what it is given is the machine's, as it comes, and what that says
 /// to clients is turned.
@@ -35,16 +34,6 @@ impl<M: Machine> Door<M> {
             alloc,
         }
     }
-}
-
-/// What was put out goes on, in that manner.
-fn put_said(manner: &Manner, held: &mut Batch, out: &mut Batch) -> Result<(), AllocError>
-    ensures { OnOk result (out.new.outs ≡ out.old.outs ++ said_by manner.now held.old.outs) }
-{
-    if manner.is_plain() {
-        return out.append(held);
-    }
-    say_all(manner, held, out)
 }
 
 impl<M: Machine> Machine for Door<M> {

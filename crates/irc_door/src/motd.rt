@@ -135,7 +135,7 @@ fn lines_fit(lines: &[String], room: usize) -> bool
 {
     let mut left = room;
     for line in lines {
-        let wanted = line.len().saturating_add(AROUND_LINE);
+        let wanted = line.len() + AROUND_LINE;
         if left < wanted {
             return false;
         }

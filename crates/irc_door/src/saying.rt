@@ -13,11 +13,22 @@ use crate::turning::{Turned, turn};
 use irc_batch::{Batch, Out};
 use std::alloc::AllocError;
 
+/// What was put out goes on, in that manner.
+pub(crate) fn put_said(
+    manner: &Manner,
+    held: &mut Batch,
+    out: &mut Batch,
+) -> Result<(), AllocError>
+    ensures { OnOk result (out.new.outs ≡ out.old.outs ++ said_by manner.now held.old.outs) }
+{
+    if manner.is_plain() {
+        return out.append(held);
+    }
+    say_all(manner, held, out)
+}
+
 /// Says all that a machine has put out.
-///
-/// # Errors
-/// Where memory runs out.
-pub(crate) fn say_all(manner: &Manner, held: &Batch, out: &mut Batch) -> Result<(), AllocError>
+fn say_all(manner: &Manner, held: &Batch, out: &mut Batch) -> Result<(), AllocError>
     ensures { OnOk result (out.new.outs ≡ out.old.outs ++ said_by manner.now held.now.outs) }
 {
     for place in 0..held.len() {
