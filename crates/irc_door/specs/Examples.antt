@@ -78,5 +78,5 @@ pub record TextsAreMessages : Type 0 where
   pub inside : is_message (codes "He" ++ (13 ∷ codes "llo")) ≡ false
   pub last : is_message (codes "Hello" ++ (13 ∷ [])) ≡ false
   pub nul : is_message (0 ∷ []) ≡ false
-  pub room : has_room 2257 (codes "Hi" ∷ [] ∷ []) ≡ false
+  pub room : has_room 2259 (codes "Hi" ∷ [] ∷ []) ≡ false
   pub just_room : has_room 2260 (codes "Hi" ∷ [] ∷ []) ≡ true

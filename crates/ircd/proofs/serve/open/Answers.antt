@@ -1,6 +1,8 @@
 use Rattle.std.proofs.Common.{refl, subst, sym}
+use Rattle.irc_door.specs.declared.manner.Manner.{Manner}
 use Rattle.irc_layer.specs.declared.layer.Layer.{Layer}
 use Rattle.irc_layer.specs.Layers.{IsAround}
+use Rattle.ircd.specs.Serving.{IsMannerOf}
 use Rattle.ircd.proofs.Ready.{unopened_by}
 use Rattle.ircd.proofs.serve.open.Goals as goal
 
@@ -14,7 +16,8 @@ pub returns : goal.returns
 returns g c = (
   record {
     door = c.new-door.result;
-    programs = c.new-door.ensures.programs;
+    manner = subst (λ (manner : Manner). IsMannerOf c.args.setup manner)
+        (sym c.new-door.ensures.manner) c.requires.manner;
     is_around = subst (λ (layer : Layer).
         IsAround c.args.setup.server c.args.setup.plain.items layer)
         (sym c.new-door.ensures.machine) c.new-layer.ensures;
