@@ -1,6 +1,6 @@
 -- What comes of reading a message of the day, where a file is named.
-use Rattle.std.proofs.Common.{◌≡◌, ◌∙◌, ℕ, Option, Some, Result, Ok, Err, IsErrAnd, List, inl, inr}
-use Rattle.std.proofs.Common.{refl, sym, subst}
+use Rattle.std.proofs.Common.{◌≡◌, ◌∙◌, ℕ, true, Option, Result, Ok, Err, IsErrAnd, List, inl, inr}
+use Rattle.std.proofs.Common.{is_some, sym, subst}
 use Rattle.irc_door.specs.declared.manner.Manner.{Manner}
 use Rattle.irc_door.specs.declared.motd.Motd.{Motd}
 use Rattle.irc_endings.specs.declared.fault.Stop.{Stop}
@@ -11,13 +11,14 @@ use Rattle.ircd.specs.Loops.Manners.{FindsManner, FindsMotd, ReadsMotd}
 use Rattle.ircd.specs.Loops.Turns.{IsOfFile}
 use Rattle.ircd.specs.Serving.{motd_file}
 
-pub named_unread : (file : List ℕ) (room : ℕ) (r : Result (Option Motd) Stop) (stop : Stop)
-    → IsOfFile stop → IsErrAnd r (λ e. e ≡ stop) → FindsMotd (Some file) room r
-named_unread file room (Ok _) stop of failed = absurd failed
-named_unread file room (Err e) stop (inl is) failed =
-    subst (λ s. FindsMotd (Some file) room (Err s)) (sym (failed ∙ is)) refl
-named_unread file room (Err e) stop (inr is) failed =
-    subst (λ s. FindsMotd (Some file) room (Err s)) (sym (failed ∙ is)) tt
+pub named_unread : (file : Option (List ℕ)) (room : ℕ) (r : Result (Option Motd) Stop)
+    (stop : Stop) → is_some file ≡ true → IsOfFile stop → IsErrAnd r (λ e. e ≡ stop)
+    → FindsMotd file room r
+named_unread file room (Ok _) stop named of failed = absurd failed
+named_unread file room (Err e) stop named (inl is) failed =
+    subst (λ s. FindsMotd file room (Err s)) (sym (failed ∙ is)) named
+named_unread file room (Err e) stop named (inr is) failed =
+    subst (λ s. FindsMotd file room (Err s)) (sym (failed ∙ is)) tt
 
 pub motd_unread : (room : ℕ) (r : Result Motd Stop) (stop : Stop) → IsOfFile stop
     → IsErrAnd r (λ e. e ≡ stop) → ReadsMotd room r
