@@ -107,7 +107,9 @@ fn are_told(lines: &[&str]) -> bool
 fn is_told(line: &str) -> bool
     ensures { result ≡ is_told line.now }
 {
-    line.as_bytes().iter().all(|byte| !(*byte == b'\0' || *byte == b'\r'))
+    line.as_bytes()
+        .iter()
+        .all(|byte| !(*byte == b'\0' || *byte == b'\r'))
 }
 
 /// The same lines, in memory of their own.

@@ -14,11 +14,7 @@ use irc_batch::{Batch, Out};
 use std::alloc::AllocError;
 
 /// What was put out goes on, in that manner.
-pub(crate) fn put_said(
-    manner: &Manner,
-    held: &mut Batch,
-    out: &mut Batch,
-) -> Result<(), AllocError>
+pub(crate) fn put_said(manner: &Manner, held: &mut Batch, out: &mut Batch) -> Result<(), AllocError>
     ensures { OnOk result (out.new.outs ≡ out.old.outs ++ said_by manner.now held.old.outs) }
 {
     if manner.is_plain() {

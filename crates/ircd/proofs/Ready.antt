@@ -94,7 +94,8 @@ text_refused text turns (Err e) stop held said bad failed =
 unread_by : (text : List ℕ) (turns : ℕ) (stop : Stop) (setup : Setup)
     (held said : Option (List ℕ)) → IsTextOf text setup → FindsManner setup (Err stop)
     → ServesText text turns (Err stop) held held said said
-unread_by text turns BadConfiguration setup held said is named = (bad_motd setup is named, refl, refl)
+unread_by text turns BadConfiguration setup held said is named =
+    (bad_motd setup is named, refl, refl)
 unread_by text turns Failed setup held said is named = unprinted refl refl
 unread_by text turns Usage setup held said is named = absurd named
 unread_by text turns (BadScript line) setup held said is named = absurd named

@@ -97,7 +97,8 @@ fn optional_motd<T: AllocGlobal + Files>(
     }
 }
 
-/// The message of the day that stands in a file. An outbox of so many bytes has to have room for it.
+/// The message of the day that stands in a file; an outbox of so many bytes has to have room for
+/// it.
 fn read_motd<T: AllocGlobal + Files>(rt: &T, file: &str, room: usize) -> Result<Motd, Stop>
     ensures { ReadsMotd room result }
 {
