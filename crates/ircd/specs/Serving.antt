@@ -302,7 +302,7 @@ pub record IsServed (text : List ℕ) (turns : ℕ)
   pub taken : FrontTurns (λ wire calls. ⊤) first errors turns last errors_after
 
 -- How serving by a text ends: anything was printed or said only where the text sets up a server; a
--- bad text is refused, and nothing printed or said.
+-- bad text is refused, and so is one whose message of the day is, and nothing printed or said.
 abbrev pub ServesText : List ℕ → ℕ → Result (Unit {0}) Stop
     → (printed printed_after errors errors_after : Option (List ℕ)) → Type 0
 ServesText text turns (Ok _) printed printed_after errors errors_after =
