@@ -1,8 +1,8 @@
-use Rattle.std.proofs.Common.{◌≡◌, Ok, Err, refl, subst}
+use Rattle.std.proofs.Common.{◌≡◌, ◌∙◌, Ok, Err, refl, subst}
 use Rattle.std.specs.Net.Grammar.{IsSocketText}
 use Rattle.ircd.specs.Serving.{plain_names, AreCalled}
 use Rattle.ircd.specs.Loops.SettingUp.{FindsCallees}
-use Rattle.ircd.proofs.SettingUp.{calls_refused, found_in, links_refused}
+use Rattle.ircd.proofs.SettingUp.{calls_refused, found_in, lent_is, links_refused}
 use Rattle.ircd.proofs.SettingUp.{server_refused}
 use Rattle.ircd.proofs.setup.set_up.Goals as goal
 
@@ -51,6 +51,8 @@ returns c = record {
   register_within = refl;
   pace = c.pace.ensures;
   programs = c.programs.ensures;
+  motd = c.in_ok-optional_text.ensures
+      ∙ lent_is c.as_ref-2.result c.args.settings.now.motd c.as_ref-2.ensures.value;
   asks = c.in_ok-asks.ensures;
   client_room = refl;
   link_room = refl;
