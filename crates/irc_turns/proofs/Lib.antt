@@ -4,4 +4,6 @@ pub mod FrontsBegun
 pub mod LettingGo
 pub mod LinesCounted
 pub mod PaceKept
+pub mod ProxyHeaders
+pub mod ProxyWords
 pub mod QueueMarks

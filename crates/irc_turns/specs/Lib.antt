@@ -1,6 +1,8 @@
 pub mod Allowances
 pub mod Arriving
+pub mod Awaiting
 pub mod Crowds
+pub mod Entering
 pub mod Fronts
 pub mod Gathering
 pub mod HeldBack
@@ -8,7 +10,11 @@ pub mod Marks
 pub mod Naming
 pub mod Numbered
 pub mod Pacing
+pub mod ProxyBytes
+pub mod ProxyLines
+pub mod Proxying
 pub mod Queues
+pub mod Ranges
 pub mod Registering
 pub mod Retries
 pub mod Rounds

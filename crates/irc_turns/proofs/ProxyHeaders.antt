@@ -1,0 +1,25 @@
+-- What is told of a header, by parts.
+use Rattle.std.proofs.Common.{◌≡◌, ◌∙◌, ◌≤◌, sym, ℕ, true, false, Option, Some, None, List, arith}
+use Rattle.std.proofs.Common.{true≢false}
+use Rattle.std.specs.declared.net.ip_addr.IpAddr.{IpAddr}
+use Rattle.irc_turns.specs.ProxyLines.{IsLine, IsNamed, family_of, is_line, without_end}
+use Rattle.irc_turns.specs.Proxying.{NamesBy}
+use Rattle.irc_turns.specs.declared.proxy_header.ProxyHeader.{ProxyHeader}
+use Rattle.irc_turns.specs.declared.proxy_header.ProxyHeader.TheVariants.{Wants, Bad, Unnamed, Names}
+
+-- where no more is wanted, none is
+pub none_left : {more wanted : ℕ} → more ≡ wanted → more ≤ 0 → wanted ≡ 0
+none_left e none = omega (arith, e, none)
+
+pub no_line : {bytes : List ℕ} → is_line bytes ≡ false → (named : Option IpAddr)
+    → IsLine bytes named → ⊥
+no_line none named is = true≢false (sym is.is_line ∙ none)
+
+-- whom a line names, by what stands in front of its end
+pub line_named : (bytes : List ℕ) (header : ProxyHeader) → is_line bytes ≡ true
+    → NamesBy (IsNamed (family_of (without_end bytes)) (without_end bytes)) header
+    → NamesBy (IsLine bytes) header
+line_named bytes (Wants more) line named = named
+line_named bytes Bad line named = λ whom is. named whom is.named_is
+line_named bytes Unnamed line named = record { is_line = line; named_is = named }
+line_named bytes (Names address) line named = record { is_line = line; named_is = named }
