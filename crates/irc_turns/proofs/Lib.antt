@@ -1,3 +1,4 @@
+pub mod Examples
 pub mod FirstReported
 pub mod FrontSteps
 pub mod FrontsBegun

@@ -3,6 +3,7 @@ pub mod Arriving
 pub mod Awaiting
 pub mod Crowds
 pub mod Entering
+pub mod Examples
 pub mod Fronts
 pub mod Gathering
 pub mod HeldBack

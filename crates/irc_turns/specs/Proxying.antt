@@ -6,6 +6,8 @@ use Rattle.std.specs.List.{starts_with}
 use Rattle.std.specs.declared.net.ip_addr.IpAddr.{IpAddr}
 use Rattle.irc_turns.specs.ProxyBytes.{IsBytes, more_of_bytes}
 use Rattle.irc_turns.specs.ProxyLines.{IsLine, more_of_line}
+use Rattle.irc_turns.specs.declared.proxy_header.HeaderKind.{HeaderKind}
+use Rattle.irc_turns.specs.declared.proxy_header.HeaderKind.TheVariants.{Line, Bytes, Neither}
 use Rattle.irc_turns.specs.declared.proxy_header.ProxyHeader.{ProxyHeader}
 use Rattle.irc_turns.specs.declared.proxy_header.ProxyHeader.TheVariants.{Wants, Bad, Unnamed, Names}
 
@@ -34,34 +36,29 @@ signature =
 abbrev pub agrees : List ℕ → List ℕ → Bool
 agrees bytes mark = starts_with nat_eq bytes mark || starts_with nat_eq mark bytes
 
-pub data Kind : Type 0 where
-  line : Kind
-  binary : Kind
-  neither : Kind
-
-abbrev pub kind_of : List ℕ → Kind
+abbrev pub kind_of : List ℕ → HeaderKind
 kind_of bytes =
-    if agrees bytes (codes "PROXY ") then line
-    else (if agrees bytes signature then binary else neither)
+    if agrees bytes (codes "PROXY ") then Line
+    else (if agrees bytes signature then Bytes else Neither)
 
--- how many more bytes a header has at least that begins with these; none where they are a header,
--- or none does
-abbrev pub more_in : Kind → List ℕ → ℕ
-more_in line bytes = more_of_line bytes
-more_in binary bytes = more_of_bytes bytes
-more_in neither bytes = 0
+-- how many more bytes a header of a kind has at least that begins with these; none where they are a
+-- header, or none does
+abbrev pub more_in : HeaderKind → List ℕ → ℕ
+more_in Line bytes = more_of_line bytes
+more_in Bytes bytes = more_of_bytes bytes
+more_in Neither bytes = 0
 
 abbrev pub more_of : List ℕ → ℕ
 more_of bytes = more_in (kind_of bytes) bytes
 
 -- bytes are a header, which names an address or nobody
-abbrev pub IsOfKind : Kind → List ℕ → Option IpAddr → Type 0
-IsOfKind line bytes named = IsLine bytes named
-IsOfKind binary bytes named = IsBytes bytes named
-IsOfKind neither bytes named = ⊥
+abbrev pub IsOfKind : HeaderKind → List ℕ → Option IpAddr → Type 0
+IsOfKind Line bytes = IsLine bytes
+IsOfKind Bytes bytes = IsBytes bytes
+IsOfKind Neither bytes = λ named. ⊥
 
 abbrev pub IsHeader : List ℕ → Option IpAddr → Type 0
-IsHeader bytes named = IsOfKind (kind_of bytes) bytes named
+IsHeader bytes = IsOfKind (kind_of bytes) bytes
 
 -- what bytes are
 abbrev pub Tells : List ℕ → ProxyHeader → Type 0

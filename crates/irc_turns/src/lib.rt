@@ -10,6 +10,7 @@ mod awaited_header;
 mod crowd;
 mod entrance;
 mod holding;
+pub mod laws;
 mod marks;
 mod newcomers;
 mod pace;

@@ -1,7 +1,7 @@
 //! The header with which a proxy says for whom it comes: the PROXY protocol of haproxy's
 //! proxy-protocol.txt.
 ghost use Rattle.std.specs.Prelude.{◌≡◌};
-ghost use Rattle.irc_turns.specs.Proxying.{Tells, agrees};
+ghost use Rattle.irc_turns.specs.Proxying.{Tells, agrees, kind_of};
 
 use crate::proxy_bytes::read_bytes;
 use crate::proxy_line::read_line;
@@ -24,16 +24,38 @@ pub enum ProxyHeader {
     Names(IpAddr),
 }
 
+/// Of which version a header is.
+#[derive(Clone, Copy, Drop)]
+pub enum HeaderKind {
+    /// Version 1: a line.
+    Line,
+    /// Version 2.
+    Bytes,
+    /// It is none.
+    Neither,
+}
+
 /// What the bytes so far are. Nothing of what follows a header is wanted.
 pub fn read_header(bytes: &[u8]) -> ProxyHeader
     ensures { Tells bytes.now result }
 {
+    match kind(bytes) {
+        HeaderKind::Line => read_line(bytes),
+        HeaderKind::Bytes => read_bytes(bytes),
+        HeaderKind::Neither => ProxyHeader::Bad,
+    }
+}
+
+/// Of which version a header can be that begins with these bytes.
+fn kind(bytes: &[u8]) -> HeaderKind
+    ensures { result ≡ kind_of bytes.now }
+{
     if agrees(bytes, WORD) {
-        read_line(bytes)
+        HeaderKind::Line
     } else if agrees(bytes, SIGNATURE) {
-        read_bytes(bytes)
+        HeaderKind::Bytes
     } else {
-        ProxyHeader::Bad
+        HeaderKind::Neither
     }
 }
 

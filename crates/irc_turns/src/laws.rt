@@ -1,0 +1,14 @@
+//! Who is in a range, and what a header is, computed. A law is a function that does nothing, and
+//! its contract is the law: the check proves it.
+ghost use Rattle.irc_turns.specs.Examples.{BytesAreRead, LinesAreWanted, RangesHave};
+
+/// Addresses in ranges and beside them.
+pub fn ranges_have()
+    ensures { RangesHave }
+{}
+
+/// Fronts of headers, and headers.
+pub fn headers_are_read()
+    ensures lines { LinesAreWanted }
+    ensures bytes { BytesAreRead }
+{}
