@@ -3,3 +3,4 @@ pub mod HearingLaws
 pub mod CarryingLaws
 pub mod NewServers
 pub mod Layers
+pub mod Stills

@@ -17,164 +17,28 @@ use Rattle.irc_server.specs.ReadEvents.{read_event_of}
 use Rattle.irc_engine.specs.Machines.{AreConnectedBy, AreStillConnected, IsConnectedBy}
 use Rattle.irc_engine.specs.Machines.{IsStillConnected}
 use Rattle.irc_engine.specs.Lemmas.Layers.{connected_shut}
+use Rattle.irc_engine.specs.Lemmas.Stills.{connected_on, event_by_still, nobody_goes_by}
+use Rattle.irc_engine.specs.Lemmas.Stills.{still_by_event}
 use Rattle.irc_layer.specs.declared.end.Cause.{Cause}
 use Rattle.irc_layer.specs.declared.end.End.{End}
 use Rattle.irc_layer.specs.Ends.{Ends}
 use Rattle.irc_layer.specs.Putting.{all_put, count_at}
 use Rattle.irc_layer.proofs.Kept.{all_kept, count_at_fails}
 
--- ---- booleans
-
-still : (b : Bool) → b ≡ (b && true)
-still true = refl
-still false = refl
-
-there_plain : (a x : Bool) → ((a || false) && not x) ≡ (a && not x)
-there_plain true x = refl
-there_plain false x = refl
-
-and_twice : (a x y : Bool) → ((a && not x) && not y) ≡ (a && not (x || y))
-and_twice true true y = refl
-and_twice true false y = refl
-and_twice false x y = refl
-
-or_false : (b : Bool) → (b || false) ≡ b
-or_false true = refl
-or_false false = refl
-
-was_before : (a x y m : Bool) → m ≡ (a && not x) → (x ≡ true → a ≡ true)
-    → (y ≡ true → m ≡ true) → (x || y) ≡ true → a ≡ true
-was_before true x y m is one other ended = refl
-was_before false true y m is one other ended = one refl
-was_before false false true m is one other ended = cc (sym is ∙ other refl)
-was_before false false false m is one other ended = cc ended
-
--- ---- nothing is put out, or more and more
-
-pub nobody_goes : (server : Option View) (outs : List Sent)
-    → IsStillConnected server outs server outs
-nobody_goes server outs = record {
-  outs = [];
-  after_is = sym (append-nil outs);
-  connected = λ behind is. (
-    behind,
-    is,
-    record {
-      clients = λ conn. still (has_client behind conn);
-      links = λ q. still (has_link behind q);
-      clients_were_there = λ conn ended. cc ended;
-      links_were_there = λ q ended. cc ended;
-    },
-  );
-}
-
-still_twice : (was mid new : View) (x y : List Sent) → AreStillConnected was x mid
-    → AreStillConnected mid y new → AreStillConnected was (x ++ y) new
-still_twice was mid new x y one other = record {
-  clients = λ q. other.clients q
-      ∙ ap (λ t. t && not (is_client_ended q y)) (one.clients q)
-      ∙ and_twice (has_client was q) (is_client_ended q x) (is_client_ended q y)
-      ∙ ap (λ t. has_client was q && not t) (sym (list_any-append (ends_client q) x y));
-  links = λ q. other.links q
-      ∙ ap (λ t. t && not (is_link_ended q y)) (one.links q)
-      ∙ and_twice (has_link was q) (is_link_ended q x) (is_link_ended q y)
-      ∙ ap (λ t. has_link was q && not t) (sym (list_any-append (ends_link q) x y));
-  clients_were_there = λ q ended. was_before (has_client was q) (is_client_ended q x)
-      (is_client_ended q y) (has_client mid q) (one.clients q) (one.clients_were_there q)
-      (other.clients_were_there q) (sym (list_any-append (ends_client q) x y) ∙ ended);
-  links_were_there = λ q ended. was_before (has_link was q) (is_link_ended q x)
-      (is_link_ended q y) (has_link mid q) (one.links q) (one.links_were_there q)
-      (other.links_were_there q) (sym (list_any-append (ends_link q) x y) ∙ ended);
-}
-
-pub connected_on : (server between after : Option View) (before mid end : List Sent)
-    → IsStillConnected server before between mid → IsStillConnected between mid after end
-    → IsStillConnected server before after end
-connected_on server between after before mid end one other = record {
-  outs = one.outs ++ other.outs;
-  after_is = other.after_is ∙ ap (λ os. os ++ other.outs) one.after_is
-      ∙ append_assoc before one.outs other.outs;
-  connected = λ behind is.
-      let then = other.connected behind is in
-      let first = one.connected then.0 then.1 in (
-        first.0,
-        first.1,
-        still_twice first.0 then.0 behind one.outs other.outs first.2 then.2,
-      );
-}
-
--- the same, where the second may fail
-pub connected_if_ok : {E : Type 0} (server between after : Option View) (before mid end : List Sent)
-    (r : Result (Unit {0}) E) → IsStillConnected server before between mid
-    → OnOk r (IsStillConnected between mid after end)
-    → OnOk r (IsStillConnected server before after end)
-connected_if_ok server between after before mid end (Ok _) one other =
-    connected_on server between after before mid end one other
-connected_if_ok server between after before mid end (Err e) one other = tt
-
--- what closes nobody is put out
-quiet_more : (server : View) (more : List Sent)
-    → ((q : ℕ) → is_client_ended q more ≡ false) → ((q : ℕ) → is_link_ended q more ≡ false)
-    → AreStillConnected server more server
-quiet_more server more no_client no_link = record {
-  clients = λ q. still (has_client server q)
-      ∙ ap (λ t. has_client server q && not t) (sym (no_client q));
-  links = λ q. still (has_link server q) ∙ ap (λ t. has_link server q && not t) (sym (no_link q));
-  clients_were_there = λ q ended. cc (sym (no_client q) ∙ ended);
-  links_were_there = λ q ended. cc (sym (no_link q) ∙ ended);
-}
-
-pub nobody_goes_by : (server : Option View) (before more after : List Sent)
-    → ((q : ℕ) → is_client_ended q more ≡ false) → ((q : ℕ) → is_link_ended q more ≡ false)
-    → after ≡ before ++ more → IsStillConnected server before server after
-nobody_goes_by server before more after no_client no_link is = record {
-  outs = more;
-  after_is = is;
-  connected = λ behind is_behind. (behind, is_behind, quiet_more behind more no_client no_link);
-}
-
 -- ---- by a line of a link
 
 module _ (link : ℕ) (line : ArrayVec ℕ) where
-  still_by : (was new : View) (x : List Sent)
-      → AreConnectedBy was (read_event_of (LinkLine link line)) x new → AreStillConnected was x new
-  still_by was new x by = record {
-    clients = λ q. by.clients q ∙ there_plain (has_client was q) (is_client_ended q x);
-    links = λ q. by.links q ∙ there_plain (has_link was q) (is_link_ended q x);
-    clients_were_there = by.clients_were_there;
-    links_were_there = λ q ended. sym (or_false (has_link was q)) ∙ by.links_were_there q ended;
-  }
-
   pub still_by_line : (server after : Option View) (before end : List Sent)
       → IsConnectedBy server (LinkLine link line) before after end
       → IsStillConnected server before after end
-  still_by_line server after before end by = record {
-    outs = by.outs;
-    after_is = by.after_is;
-    connected = λ behind is.
-        let was = by.connected behind is in
-        (was.0, was.1, still_by was.0 behind by.outs was.2);
-  }
-
-  by_still : (was new : View) (x : List Sent) → AreStillConnected was x new
-      → AreConnectedBy was (read_event_of (LinkLine link line)) x new
-  by_still was new x by = record {
-    clients = λ q. by.clients q ∙ sym (there_plain (has_client was q) (is_client_ended q x));
-    links = λ q. by.links q ∙ sym (there_plain (has_link was q) (is_link_ended q x));
-    clients_were_there = by.clients_were_there;
-    links_were_there = λ q ended. or_false (has_link was q) ∙ by.links_were_there q ended;
-  }
+  still_by_line = still_by_event (LinkLine link line) (λ q. refl) (λ q. refl) (λ q. refl)
+      (λ q. refl)
 
   pub line_by_still : (server after : Option View) (before end : List Sent)
       → IsStillConnected server before after end
       → IsConnectedBy server (LinkLine link line) before after end
-  line_by_still server after before end by = record {
-    outs = by.outs;
-    after_is = by.after_is;
-    connected = λ behind is.
-        let was = by.connected behind is in
-        (was.0, was.1, by_still was.0 behind by.outs was.2);
-  }
+  line_by_still = event_by_still (LinkLine link line) (λ q. refl) (λ q. refl) (λ q. refl)
+      (λ q. refl)
 
   -- it is told that the link is lost, which is closed behind that
   pub still_shut : (reason : CloseReason) (server after : Option View) (before mid : List Sent)

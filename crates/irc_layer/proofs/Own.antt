@@ -10,7 +10,7 @@ use Rattle.irc_layer.specs.Ends.{Ends}
 use Rattle.irc_layer.specs.declared.end.Cause.{Cause}
 use Rattle.irc_layer.specs.Layers.{puts_out, State}
 use Rattle.irc_layer.specs.Putting.{all_put, ends_behind_all}
-use Rattle.irc_layer.proofs.Connecting.{nobody_goes_by}
+use Rattle.irc_engine.specs.Lemmas.Stills.{nobody_goes_by}
 use Rattle.irc_layer.proofs.Kept.{all_kept, lines_fail}
 
 module _ (cause : Cause) (link : ℕ) (lines : List (List ℕ)) (old : State) (held : List Sent)

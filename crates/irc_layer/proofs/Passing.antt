@@ -19,7 +19,8 @@ use Rattle.irc_layer.specs.Ends.{ends_followed, Ends}
 use Rattle.irc_layer.specs.declared.end.Cause.{Cause}
 use Rattle.irc_layer.specs.Layers.{by_itself, closing, IsConnectedIf, Passes, PassesOrNot, State}
 use Rattle.irc_layer.specs.Putting.{all_put, ends_behind_all}
-use Rattle.irc_layer.proofs.Connecting.{connected_put, nobody_goes, still_by_line, still_shut}
+use Rattle.irc_engine.specs.Lemmas.Stills.{nobody_goes}
+use Rattle.irc_layer.proofs.Connecting.{connected_put, still_by_line, still_shut}
 use Rattle.arrayvec.specs.ArrayVec.{ArrayVec}
 
 -- ---- it is handled
@@ -51,12 +52,6 @@ module _ (cause : Cause) (event : Event) (old new : State) (held outs : List Sen
       none_held connected) put
 
 -- ---- it is not
-
-pub memory_owed : (server : Option View) (event : Event) (r : Result (Unit {0}) ServerFault)
-    → IsErrAnd r (λ fault. fault ≡ Memory) → IfErr r (IsRefusal server event)
-memory_owed server event (Ok _) failed = tt
-memory_owed server event (Err fault) failed =
-    subst (λ f. IsRefusal server event f) (sym failed) runs_out_now
 
 -- who may be told that a link is lost has it
 no_fault : (end : Option End) → no_link end ≡ None → is_some end ≡ true

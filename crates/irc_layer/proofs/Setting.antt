@@ -14,7 +14,8 @@ use Rattle.irc_engine.specs.Machines.{is_out_of_memory, AreConnectedBy, IsConnec
 use Rattle.irc_engine.specs.Machines.{IsStillConnected}
 use Rattle.irc_layer.specs.Layers.{by_setting, not_open, sets, Sets, State}
 use Rattle.irc_layer.specs.Putting.{all_put, ends_behind_all}
-use Rattle.irc_layer.proofs.Connecting.{connected_put, nobody_goes, still_by_line}
+use Rattle.irc_engine.specs.Lemmas.Stills.{nobody_goes}
+use Rattle.irc_layer.proofs.Connecting.{connected_put, still_by_line}
 
 -- ---- who is connected
 

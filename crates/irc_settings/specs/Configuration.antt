@@ -104,6 +104,9 @@ pub record Tells (document : Members) (settings : Settings) : Type 0 where
       ≡ option_map pos settings.register_within
   pub pace : pace_at document ≡ option_map pace_told settings.pace
   pub programs : flag_at (codes "programs") document ≡ settings.programs
+  pub motd : text_at (codes "motd") document ≡ option_map string_bytes settings.motd
+  pub password : text_at (codes "password") document ≡ option_map string_bytes settings.password
+  pub ping_after : integer_at (codes "ping_after") document ≡ option_map pos settings.ping_after
   pub peers : map peer_at (tables_at (codes "peer") document) ≡ map peer_told settings.peers.items
 
 -- whether a text is a configuration: a TOML document with the keys that it has to have, and no

@@ -106,6 +106,8 @@ server_keys =
     ∷ optional (codes "register_within") (integer 1 3600)
     ∷ optional (codes "lines_per_second") (integer 1 1000)
     ∷ optional (codes "burst_lines") (integer 1 1000) ∷ optional (codes "programs") flag
+    ∷ optional (codes "motd") text ∷ optional (codes "password") text
+    ∷ optional (codes "ping_after") (integer 1 3600)
     ∷ optional (codes "peer") (tables is_peer) ∷ []
 
 -- whether a number of lines at once goes with one of lines in a second

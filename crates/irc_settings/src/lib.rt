@@ -38,6 +38,10 @@ pub const LINKS_PER_ADDRESS: u16 = 16;
 /// The most seconds that a client may have to become a user: an hour (our own choice).
 pub const MOST_REGISTER_WITHIN: u16 = 3_600;
 
+/// The most seconds after which a client that says nothing is asked whether it is there: an hour
+/// (our own choice).
+pub const MOST_PING_AFTER: u16 = 3_600;
+
 /// The most lines of a client that may be taken in a second, or at once (our own choice).
 pub const MOST_LINES: u16 = 1_000;
 

@@ -8,13 +8,13 @@ use crate::pace::{bursts_are_paced, pace};
 use crate::peers::peers;
 use crate::{
     LINKS_PER_ADDRESS, MOST_CLIENT_ROOM, MOST_CONNECTIONS, MOST_LINK_ROOM, MOST_NAME_WITHIN,
-    MOST_REGISTER_WITHIN, NAME_WITHIN, SettingsFault,
+    MOST_PING_AFTER, MOST_REGISTER_WITHIN, NAME_WITHIN, SettingsFault,
 };
 use std::alloc::Global;
 use toml::Table;
 
 /// The keys of the document.
-const SERVER_KEYS: [&str; 15] = [
+const SERVER_KEYS: [&str; 18] = [
     "name",
     "info",
     "created",
@@ -29,6 +29,9 @@ const SERVER_KEYS: [&str; 15] = [
     "lines_per_second",
     "burst_lines",
     "programs",
+    "motd",
+    "password",
+    "ping_after",
     "peer",
 ];
 
@@ -65,6 +68,13 @@ pub struct Settings {
     pub pace: Option<LinesPace>,
     /// Whether clients are told what their programs expect beside the profile.
     pub programs: bool,
+    /// The file whose text clients are told as they register, if there is one.
+    pub motd: Option<String>,
+    /// The password that each client has to give, if one is asked for.
+    pub password: Option<String>,
+    /// After how many seconds a client that says nothing is asked whether it is there, if it is: 1
+    /// to [`MOST_PING_AFTER`].
+    pub ping_after: Option<u16>,
     /// The servers that may be linked to: the tables `peer`, in order.
     pub peers: Vec<PeerSettings, Global>,
 }
@@ -101,8 +111,8 @@ pub struct PeerSettings {
 /// What is an `Option`, a list or a `bool` here may be left out. `name_within` is [`NAME_WITHIN`]
 /// then, `links_per_address` [`LINKS_PER_ADDRESS`], `burst_lines` [`crate::BURST_LINES`], and
 /// `programs` and `plain` false; 0 at the first two is no limit. `burst_lines` stands only beside
-/// `lines_per_second`, and a peer's `retry` and `plain` beside `connect`. Names, passwords and
-/// addresses are any texts here.
+/// `lines_per_second`, and a peer's `retry` and `plain` beside `connect`. Names, passwords, files
+/// and addresses are any texts here.
 ///
 /// # Errors
 /// Where the text is no such document; where memory runs out, which may come first.
@@ -164,6 +174,9 @@ fn settings_in(alloc: Global, document: &Table) -> Result<Settings, SettingsFaul
         register_within: optional_number(document, "register_within", MOST_REGISTER_WITHIN)?,
         pace: pace(document)?,
         programs: flag(document, "programs")?,
+        motd: optional_text(alloc, document, "motd")?,
+        password: optional_text(alloc, document, "password")?,
+        ping_after: optional_number(document, "ping_after", MOST_PING_AFTER)?,
         peers: peers(alloc, document)?,
     })
 }

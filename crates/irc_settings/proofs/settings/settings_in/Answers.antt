@@ -1,15 +1,15 @@
 use Rattle.std.proofs.Common.{Bool, ◌≡◌, ◌&&◌, true, [], drop, map, option_map, pos, refl, sym}
 use Rattle.std.proofs.Common.{◌∙◌, rules}
-use Rattle.std.specs.Prelude.{ℕ, Option, Vec, codes}
+use Rattle.std.specs.Prelude.{ℕ, Option, String, Vec, codes, string_bytes}
 use Rattle.std.specs.declared.alloc.Global.{Global}
 use Rattle.std.specs.List.{list_all}
 use Rattle.toml.specs.View.{table_view}
-use Rattle.irc_settings.specs.Configuration.{Tells, flag_at, integer_at, pace_at, pace_told}
-use Rattle.irc_settings.specs.Configuration.{peer_at}
-use Rattle.irc_settings.specs.Configuration.{peer_told, tables_at}
+use Rattle.irc_settings.specs.Configuration.{Tells, flag_at, integer_at, limit_at, pace_at}
+use Rattle.irc_settings.specs.Configuration.{pace_told, peer_at}
+use Rattle.irc_settings.specs.Configuration.{peer_told, tables_at, text_at}
 use Rattle.irc_settings.specs.Keys.{flag, integer, is_in_form, is_kept, is_peer, optional}
 use Rattle.irc_settings.specs.Keys.{server_keys}
-use Rattle.irc_settings.specs.Keys.{tables}
+use Rattle.irc_settings.specs.Keys.{tables, text}
 use Rattle.irc_settings.specs.declared.settings.LinesPace.{LinesPace}
 use Rattle.irc_settings.specs.declared.settings.PeerSettings.{PeerSettings}
 use Rattle.irc_settings.proofs.KeysLost.{key_lost, pair_lost, refused}
@@ -20,6 +20,26 @@ use Rattle.irc_settings.proofs.settings.settings_in.Goals as goal
 pub returns-then-not-has_only : goal.returns-then-not-has_only
 returns-then-not-has_only c =
     unknown_key server_keys c.args.document.now.entries (sym c.has_only.ensures ∙ search rules)
+
+pub returns-in_err-limit : goal.returns-in_err-limit
+returns-in_err-limit c =
+    let table = table_view c.args.document.now in
+    let key = optional (codes "name_within") (integer 0 3600) in
+    refused (is_kept table key) (is_in_form server_keys table)
+    (λ (found : Option ℕ). limit_at (codes "name_within") 10 table ≡ option_map pos found)
+    (Tells table) c.from_residual-in_err-limit.result c.in_err-limit.field-0.0
+    (key_lost 8 server_keys key (drop 9 server_keys) table refl)
+    c.in_err-limit.ensures c.from_residual-in_err-limit.ensures.1
+
+pub returns-in_err-limit-2 : goal.returns-in_err-limit-2
+returns-in_err-limit-2 c =
+    let table = table_view c.args.document.now in
+    let key = optional (codes "links_per_address") (integer 0 65535) in
+    refused (is_kept table key) (is_in_form server_keys table)
+    (λ (found : Option ℕ). limit_at (codes "links_per_address") 16 table ≡ option_map pos found)
+    (Tells table) c.from_residual-in_err-limit-2.result c.in_err-limit-2.field-0.0
+    (key_lost 9 server_keys key (drop 10 server_keys) table refl)
+    c.in_err-limit-2.ensures c.from_residual-in_err-limit-2.ensures.1
 
 pub returns-in_err-optional_number-2 : goal.returns-in_err-optional_number-2
 returns-in_err-optional_number-2 c =
@@ -53,6 +73,39 @@ returns-in_err-flag c =
     (key_lost 13 server_keys key (drop 14 server_keys) table refl)
     c.in_err-flag.ensures c.from_residual-in_err-flag.ensures.1
 
+pub returns-in_err-optional_text-2 : goal.returns-in_err-optional_text-2
+returns-in_err-optional_text-2 c =
+    let table = table_view c.args.document.now in
+    let key = optional (codes "motd") text in
+    refused (is_kept table key) (is_in_form server_keys table)
+    (λ (found : Option (String Global)). text_at (codes "motd") table
+    ≡ option_map string_bytes found)
+    (Tells table) c.from_residual-in_err-optional_text-2.result c.in_err-optional_text-2.field-0.0
+    (key_lost 14 server_keys key (drop 15 server_keys) table refl)
+    c.in_err-optional_text-2.ensures c.from_residual-in_err-optional_text-2.ensures.1
+
+pub returns-in_err-optional_text-3 : goal.returns-in_err-optional_text-3
+returns-in_err-optional_text-3 c =
+    let table = table_view c.args.document.now in
+    let key = optional (codes "password") text in
+    refused (is_kept table key) (is_in_form server_keys table)
+    (λ (found : Option (String Global)). text_at (codes "password") table
+    ≡ option_map string_bytes found)
+    (Tells table) c.from_residual-in_err-optional_text-3.result c.in_err-optional_text-3.field-0.0
+    (key_lost 15 server_keys key (drop 16 server_keys) table refl)
+    c.in_err-optional_text-3.ensures c.from_residual-in_err-optional_text-3.ensures.1
+
+pub returns-in_err-optional_number-3 : goal.returns-in_err-optional_number-3
+returns-in_err-optional_number-3 c =
+    let table = table_view c.args.document.now in
+    let key = optional (codes "ping_after") (integer 1 3600) in
+    refused (is_kept table key) (is_in_form server_keys table)
+    (λ (found : Option ℕ). integer_at (codes "ping_after") table ≡ option_map pos found)
+    (Tells table) c.from_residual-in_err-optional_number-3.result
+    c.in_err-optional_number-3.field-0.0
+    (key_lost 16 server_keys key (drop 17 server_keys) table refl)
+    c.in_err-optional_number-3.ensures c.from_residual-in_err-optional_number-3.ensures.1
+
 pub returns-in_err-peers : goal.returns-in_err-peers
 returns-in_err-peers c =
     let table = table_view c.args.document.now in
@@ -61,7 +114,7 @@ returns-in_err-peers c =
     (λ (found : Vec PeerSettings Global).
     map peer_at (tables_at (codes "peer") table) ≡ map peer_told found.items) (Tells table)
     c.from_residual-in_err-peers.result c.in_err-peers.field-0.0
-    (key_lost 14 server_keys key [] table refl)
+    (key_lost 17 server_keys key [] table refl)
     c.in_err-peers.ensures c.from_residual-in_err-peers.ensures.1
 
 pub returns : goal.returns
@@ -84,6 +137,9 @@ returns c =
       per_second_kept per_second burst c.in_ok-pace.ensures.0,
       burst_kept per_second burst c.in_ok-pace.ensures.0,
       c.in_ok-flag.ensures.0,
+      c.in_ok-optional_text-2.ensures.0,
+      c.in_ok-optional_text-3.ensures.0,
+      c.in_ok-optional_number-3.ensures.0,
       c.in_ok-peers.ensures.0,
     ) in (
       all_kept server_keys c.args.document.now.entries (sym c.has_only.ensures ∙ search rules) kept,
@@ -101,6 +157,9 @@ returns c =
         register_within = c.in_ok-optional_number-2.ensures.1;
         pace = c.in_ok-pace.ensures.1;
         programs = c.in_ok-flag.ensures.1;
+        motd = c.in_ok-optional_text-2.ensures.1;
+        password = c.in_ok-optional_text-3.ensures.1;
+        ping_after = c.in_ok-optional_number-3.ensures.1;
         peers = c.in_ok-peers.ensures.1;
       },
     )

@@ -1,4 +1,4 @@
-use Rattle.irc_layer.proofs.Connecting.{nobody_goes}
+use Rattle.irc_engine.specs.Lemmas.Stills.{nobody_goes}
 use Rattle.irc_layer.proofs.layer.Layer.ask_of.Goals as goal
 
 pub returns-in_default-clause-connected : goal.returns-in_default-clause-connected

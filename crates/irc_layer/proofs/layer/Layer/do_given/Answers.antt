@@ -1,4 +1,4 @@
-use Rattle.irc_layer.proofs.Connecting.{nobody_goes}
+use Rattle.irc_engine.specs.Lemmas.Stills.{nobody_goes}
 use Rattle.irc_layer.proofs.layer.Layer.do_given.Goals as goal
 
 pub returns-in-LeftOut-clause-connected : goal.returns-in-LeftOut-clause-connected

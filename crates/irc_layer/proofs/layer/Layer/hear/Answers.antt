@@ -1,4 +1,5 @@
-use Rattle.irc_layer.proofs.Connecting.{nobody_goes, quiet_if_ok}
+use Rattle.irc_engine.specs.Lemmas.Stills.{nobody_goes}
+use Rattle.irc_layer.proofs.Connecting.{quiet_if_ok}
 use Rattle.irc_layer.specs.Ends.{end_at}
 use Rattle.irc_layer.proofs.layer.Layer.hear.Goals as goal
 

@@ -4,7 +4,7 @@ use Rattle.std.proofs.lemmas.List.{nil_from_length}
 use Rattle.std.specs.Vec.Iter.{into_iter_items}
 use Rattle.irc_pieces.specs.Pieces.{lines_of}
 use Rattle.irc_layer.specs.Layers.{state_of}
-use Rattle.irc_layer.proofs.Connecting.{connected_on, nobody_goes}
+use Rattle.irc_engine.specs.Lemmas.Stills.{connected_on, nobody_goes}
 use Rattle.irc_layer.proofs.Hearing.{heard_none, heard_on, heard_whole}
 use Rattle.irc_layer.proofs.layer.Layer.hear_all.Goals as goal
 

@@ -5,7 +5,7 @@ use Rattle.irc_layer.specs.Layers.{is_heard, state_of}
 use Rattle.irc_layer.specs.Layers.Handles.{hears}
 use Rattle.irc_layer.proofs.Connecting.{line_by_still}
 use Rattle.irc_layer.proofs.Hearing.{no_memory}
-use Rattle.irc_layer.proofs.Passing.{memory_owed}
+use Rattle.irc_engine.specs.Lemmas.Stills.{memory_owed}
 use Rattle.irc_layer.proofs.layer.Layer.hear_event.Goals as goal
 
 pub returns-in_err-hear-clause-handled : goal.returns-in_err-hear-clause-handled

@@ -1,4 +1,4 @@
-use Rattle.irc_layer.proofs.Connecting.{connected_if_ok}
+use Rattle.irc_engine.specs.Lemmas.Stills.{connected_if_ok}
 use Rattle.irc_layer.proofs.layer.Layer.hear_other.Goals as goal
 
 pub returns-clause-connected : goal.returns-clause-connected

@@ -1,7 +1,8 @@
 use Rattle.std.proofs.Common.{◌∙◌, ap, refl}
 use Rattle.irc_layer.specs.Ends.{end_at, ends_followed}
 use Rattle.irc_layer.specs.Layers.{state_of}
-use Rattle.irc_layer.proofs.Passing.{connects_by, memory_owed, passes_by}
+use Rattle.irc_engine.specs.Lemmas.Stills.{memory_owed}
+use Rattle.irc_layer.proofs.Passing.{connects_by, passes_by}
 use Rattle.irc_layer.proofs.layer.Layer.pass.Goals as goal
 
 pub returns-in_err-follow-clause-owed : goal.returns-in_err-follow-clause-owed

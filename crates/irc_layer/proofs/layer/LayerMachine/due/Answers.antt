@@ -1,4 +1,4 @@
-use Rattle.irc_layer.proofs.Connecting.{nobody_goes}
+use Rattle.irc_engine.specs.Lemmas.Stills.{nobody_goes}
 use Rattle.irc_layer.proofs.layer.LayerMachine.due.Goals as goal
 
 pub returns-clause-connected : goal.returns-clause-connected

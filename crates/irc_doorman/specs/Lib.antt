@@ -1,0 +1,5 @@
+pub mod Doormen
+pub mod Examples
+pub mod Guests
+pub mod Passwords
+pub mod Texts
