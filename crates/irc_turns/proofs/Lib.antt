@@ -8,3 +8,4 @@ pub mod PaceKept
 pub mod ProxyHeaders
 pub mod ProxyWords
 pub mod QueueMarks
+pub mod RangesRead

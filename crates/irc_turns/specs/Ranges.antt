@@ -1,10 +1,11 @@
 -- Ranges of addresses: who has the same first bits.
 use Rattle.std.specs.Prelude.{◌≡◌, ℕ, Bool, ◌+◌, ◌-◌, ◌/◌, ◌^◌, nat_eq, nat_le, if◌then◌else◌}
-use Rattle.std.specs.Prelude.{Option, Some, None, option_map, option_and_then, List}
-use Rattle.std.specs.Prelude.{take, drop, position}
+use Rattle.std.specs.Prelude.{Option, Some, None, option_map, option_and_then, List, [], ◌∷◌}
+use Rattle.std.specs.Prelude.{Vec, take, drop, position}
 use Rattle.std.specs.List.{list_any}
 use Rattle.std.specs.Option.{option_map_or}
 use Rattle.std.specs.Net.Grammar.{IsIpText}
+use Rattle.std.specs.declared.alloc.Global.{Global}
 use Rattle.std.specs.declared.net.ip_addr.IpAddr.{IpAddr}
 use Rattle.std.specs.declared.net.ip_addr.IpAddr.TheVariants.{V4, V6}
 use Rattle.irc_decimals.specs.Numbers.{written_number}
@@ -66,3 +67,21 @@ pub record ReadsRange (text : List ℕ) (range : Option AddressRange) : Type 0 w
   pub address : Option IpAddr
   pub is_written : WritesAddress (before_slash text) address
   pub range_is : range ≡ range_said address (behind_slash text)
+
+-- the ranges that texts write, in order
+pub data AreRanges : List (List ℕ) → List AddressRange → Type 0 where
+  nothing : AreRanges [] []
+  one_more : {text : List ℕ} {range : AddressRange} {texts : List (List ℕ)}
+      {ranges : List AddressRange} → ReadsRange text (Some range) → AreRanges texts ranges
+      → AreRanges (text ∷ texts) (range ∷ ranges)
+
+-- one of some texts writes none
+pub data IsSomeNoRange : List (List ℕ) → Type 0 where
+  this : {text : List ℕ} {texts : List (List ℕ)} → ReadsRange text None
+      → IsSomeNoRange (text ∷ texts)
+  later : {text : List ℕ} {texts : List (List ℕ)} → IsSomeNoRange texts
+      → IsSomeNoRange (text ∷ texts)
+
+abbrev pub ReadsRanges : List (List ℕ) → Option (Vec AddressRange Global) → Type 0
+ReadsRanges texts (Some ranges) = AreRanges texts ranges.items
+ReadsRanges texts None = IsSomeNoRange texts

@@ -1,12 +1,14 @@
 //! Addresses that begin with the same bits.
-ghost use Rattle.std.specs.Prelude.{◌≡◌, ◌/◌, ◌^◌, ◌<◌, IfSome, length, position};
+ghost use Rattle.std.specs.Prelude.{◌≡◌, ◌/◌, ◌^◌, ◌<◌, ◌++◌, ◌∷◌, [], IfOk, IfSome};
+ghost use Rattle.std.specs.Prelude.{OnOk, length, map, position, string_bytes};
 ghost use Rattle.std.specs.Option.{option_copied};
-ghost use Rattle.irc_turns.specs.Ranges.{ReadsRange, WritesAddress, before_slash};
+ghost use Rattle.irc_turns.specs.Ranges.{ReadsRange, ReadsRanges, WritesAddress, before_slash};
 ghost use Rattle.irc_turns.specs.Ranges.{behind_slash, bits_said};
 ghost use Rattle.irc_turns.specs.Ranges.{is_slash, is_within, is_within_any, range_of, width_of};
 
 use crate::crowd::number_of;
 use irc_decimals::read_number;
+use std::alloc::{AllocError, Global};
 use std::net::IpAddr;
 
 /// How many bits an address of IPv4 has, and how many one of IPv6.
@@ -40,6 +42,36 @@ impl AddressRange {
     {
         front(number_of(address), self.free) == front(self.base, self.free)
     }
+}
+
+/// The ranges that texts write; nothing, where one of them writes none.
+///
+/// # Errors
+/// Where memory runs out.
+pub fn read_ranges(
+    alloc: Global,
+    texts: &[String],
+) -> Result<Option<Vec<AddressRange, Global>>, AllocError>
+    ensures { IfOk result (λ ranges. ReadsRanges (map string_bytes texts.now) ranges) }
+{
+    let mut ranges = Vec::new(alloc);
+    let mut rest = texts;
+    while let Some((text, more)) = rest.split_first() {
+        let Some(range) = AddressRange::read(text.as_str()) else {
+            return Ok(None);
+        };
+        add(&mut ranges, range)?;
+        rest = more;
+    }
+    Ok(Some(ranges))
+}
+
+/// Appends a range.
+fn add(ranges: &mut Vec<AddressRange, Global>, range: AddressRange) -> Result<(), AllocError>
+    ensures { OnOk result (ranges.new.items ≡ ranges.old.items ++ range ∷ []) }
+{
+    ranges.push(range)?;
+    Ok(())
 }
 
 /// Whether an address is in any of some ranges.

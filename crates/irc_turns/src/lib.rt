@@ -31,7 +31,7 @@ mod talkers;
 mod waiting;
 mod waits;
 
-pub use address_range::AddressRange;
+pub use address_range::{AddressRange, read_ranges};
 pub use allowance::{LinesPace, fronts_begin_so_many, lines_are_counted, pace_is_kept};
 pub use arrivals::Arrivals;
 pub use awaited_header::{AwaitedHeader, may_await_one_more};
