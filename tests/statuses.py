@@ -82,6 +82,8 @@ GOOD = [
     with_own("name_within", "0"), with_own("name_within", "3_600"), with_own("links_per_address", "0"), with_own("links_per_address", "65535"),
     with_own("register_within", "1"), with_own("register_within", "3600"), with_own("lines_per_second", "1"), with_own("lines_per_second", "1000"),
     *[with_own("programs", programs) for programs in ("true", "false")],
+    *[with_own(key, ranges) for key in ("deny", "proxies")
+      for ranges in ("[]", '["127.0.0.1"]', '["10.1.2.3/16", "::/0"]', '["0.0.0.0/0",\n"2001:DB8::1/128", ]', '["::ffff:1.2.3.4/32"]', '["1.2.3.4/32"]')],
     written(OWN | {"lines_per_second": "2", "burst_lines": "1"}), written(OWN | {"burst_lines": "1000", "lines_per_second": "1"}),
     with_own("peer", '[{name = "b.net", password = "pw"}, {\n  name = "c.net", # the other\n  password = "\\x70w",\n}]'),
     with_peer(password='"!"'), with_peer(password='"' + 19 * "~" + ':"'), with_peer(connect='"127.0.0.1:1"', retry="1"),
@@ -110,6 +112,9 @@ BAD = [
     ("register_within", with_own("register_within", "0")), ("register_within", with_own("register_within", "3601")),
     ("lines_per_second", with_own("lines_per_second", "0")), ("lines_per_second", with_own("lines_per_second", "1001")),
     *[("burst_lines", written(OWN | {"lines_per_second": "2", "burst_lines": lines})) for lines in ("0", "1001", '"10"')],
+    *[(key, with_own(key, ranges)) for key in ("deny", "proxies")
+      for ranges in ('"127.0.0.1"', "[1]", '[["127.0.0.1"]]', '[""]', '["localhost"]', '["10.1/16"]', '["10.1.0.0/33"]', '["10.1.0.0/016"]', '["10.1.0.0/"]',
+                     '["10.1.0.0/+1"]', '["10.1.0.0/16/16"]', '["::1/129"]', '["[::1]"]', '["127.0.0.1:1"]', '["10.1.0.0 /16"]', '["127.0.0.1", "x"]', '["/8"]')],
     *[("programs", with_own("programs", programs)) for programs in ("1", '"true"', '"usual"', "[true]")],
     ("burst_lines", with_own("burst_lines", "10")),
     ("port", with_own("port", "6667")), ("password", with_own("password", '"pw"')), ("Name", with_own("Name", '"a.net"')),
