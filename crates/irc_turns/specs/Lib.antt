@@ -12,6 +12,7 @@ pub mod Naming
 pub mod Numbered
 pub mod Pacing
 pub mod ProxyBytes
+pub mod ProxyLaws
 pub mod ProxyLines
 pub mod Proxying
 pub mod Queues
