@@ -33,8 +33,11 @@ first_byte b bytes m mark agree =
 pub front_fits : (bytes mark : List ℕ) → starts_with nat_eq bytes mark ≡ true
     → length mark ≤ length bytes
 front_fits bytes mark begins =
-    omega (arith, pointwise_long nat_eq mark (take (length mark) bytes) begins,
-    length-take (length mark) bytes)
+    omega (
+      arith,
+      pointwise_long nat_eq mark (take (length mark) bytes) begins,
+      length-take (length mark) bytes,
+    )
 
 -- bytes that one more ends with CR LF end with CR
 pub one_before_end : (bytes : List ℕ) (x : ℕ) → 1 ≤ length bytes
@@ -48,6 +51,7 @@ one_before_end bytes x some ends =
     behind = ap (λ n. drop n (bytes ++ x ∷ []))
         (omega (arith, length-append bytes (x ∷ []), some))
         ∙ drop-append-le (length bytes - 1) bytes (x ∷ []) (omega arith)
+
     by : (last : List ℕ) → length last ≡ 1 → pointwise nat_eq line_end (last ++ x ∷ []) ≡ true
         → pointwise nat_eq (13 ∷ []) last ≡ true
     by [] long same = cc long

@@ -45,8 +45,12 @@ bytes_not_past bytes rest named is =
           omega (arith, whole_length (bytes ++ rest) is.is_whole, length-append bytes rest)
       | false ↦ λ long. elim (is_taken bytes)
           as (λ t. cond t ((16 + behind bytes) - length bytes) 0 ≤ length rest) [
-            | true ↦ omega (arith, whole_length (bytes ++ rest) is.is_whole,
-                length-append bytes rest, behind_same bytes rest (ltb-false _ _ long))
+            | true ↦ omega (
+              arith,
+              whole_length (bytes ++ rest) is.is_whole,
+              length-append bytes rest,
+              behind_same bytes rest (ltb-false _ _ long),
+            )
             | false ↦ omega arith
           ]
     ] refl
@@ -57,8 +61,11 @@ bytes_not_past bytes rest named is =
 four_words : (is_of_ipv4 : Bool) (text : List ℕ) (source : IpAddr) → AreEnds is_of_ipv4 text source
     → 3 ≤ length text
 four_words is_of_ipv4 text source ends =
-    omega (arith, sym (length-slice_split is_space text) ∙ ap length ends.words_are,
-    count_by-le-length is_space text)
+    omega (
+      arith,
+      sym (length-slice_split is_space text) ∙ ap length ends.words_are,
+      count_by-le-length is_space text,
+    )
 
 -- a source stands behind eleven bytes
 behind_eleven : (is_of_ipv4 : Bool) (text : List ℕ) (named : Option IpAddr)

@@ -53,8 +53,15 @@ pub fifth_word : (p : ℕ → Bool) (a b c d t u v w x : List ℕ)
     → slice_split p v ≡ c ∷ slice_split p w → slice_split p w ≡ d ∷ slice_split p x
     → nat_eq (length (slice_split p t)) 4 ≡ false
 fifth_word p a b c d t u v w x first second third fourth =
-    ne_eqb (length (slice_split p t)) 4 (λ four. omega (arith, four, longer t u first,
-    longer u v second, longer v w third, longer w x fourth, length-slice_split p x))
+    ne_eqb (length (slice_split p t)) 4 (λ four. omega (
+      arith,
+      four,
+      longer t u first,
+      longer u v second,
+      longer v w third,
+      longer w x fourth,
+      length-slice_split p x,
+    ))
   where
     longer : (y z : List ℕ) {word : List ℕ} → slice_split p y ≡ word ∷ slice_split p z
         → length (slice_split p y) ≡ length (slice_split p z) + 1

@@ -13,6 +13,7 @@ use std::net::IpAddr;
 
 /// How many bits an address of IPv4 has, and how many one of IPv6.
 const IPV4_BITS: u8 = 32;
+
 const IPV6_BITS: u8 = 128;
 
 /// Addresses whose numbers begin with the same bits.

@@ -11,21 +11,28 @@ use std::net::{IpAddr, Ipv4Addr, Ipv6Addr};
 
 /// How many bytes say what follows, and how many may follow (our own choice).
 const FIXED: usize = 16;
+
 const MOST_BEHIND: usize = 512;
 
 /// Where these have the command, the family, and how many follow.
 const COMMAND_AT: usize = 12;
+
 const FAMILY_AT: usize = 13;
+
 const LENGTH_AT: usize = 14;
 
 /// Version 2, and that the proxy comes for itself, or for somebody.
 const LOCAL: u8 = 0x20;
+
 const PROXY: u8 = 0x21;
 
 /// The families, and how many bytes the addresses and ports of each have.
 const TCP4: u8 = 0x11;
+
 const TCP4_ENDS: usize = 12;
+
 const TCP6: u8 = 0x21;
+
 const TCP6_ENDS: usize = 36;
 
 /// What these bytes are so far.

@@ -9,6 +9,7 @@ use std::net::IpAddr;
 
 /// With what a header of version 1 begins, and one of version 2.
 const WORD: &[u8] = b"PROXY ";
+
 const SIGNATURE: &[u8] = b"\r\n\r\n\0\r\nQUIT\n";
 
 /// What the bytes so far are.

@@ -14,15 +14,19 @@ use std::net::{IpAddr, Ipv4Addr, Ipv6Addr};
 
 /// The least bytes of a line, and the most.
 const SHORTEST: usize = 15;
+
 const LONGEST: usize = 107;
 
 /// How lines begin that name an address, and how long that is.
 const TCP4: &[u8] = b"PROXY TCP4 ";
+
 const TCP6: &[u8] = b"PROXY TCP6 ";
+
 const FAMILY_END: usize = 11;
 
 /// The line that names nobody, and how it begins where more stands in it.
 const UNKNOWN: &[u8] = b"PROXY UNKNOWN";
+
 const UNKNOWN_MORE: &[u8] = b"PROXY UNKNOWN ";
 
 /// The greatest port.
@@ -183,11 +187,7 @@ fn space_at(text: &[u8]) -> Option<usize>
 fn address(word: &[u8], is_of_ipv4: bool) -> Option<IpAddr>
     ensures { FindsAddress is_of_ipv4 word.now result }
 {
-    if is_of_ipv4 {
-        ipv4(word)
-    } else {
-        ipv6(word)
-    }
+    if is_of_ipv4 { ipv4(word) } else { ipv6(word) }
 }
 
 /// The address of IPv4 that a word is.

@@ -114,10 +114,10 @@ programs_set true = Usual
 programs_set false = Off
 
 -- The server is made of the settings, without clients, and of their name; where it listens, from
--- where no client comes in, from where proxies come, whom it calls, without the word by which pieces are counted too, and again when, by its own name too, how
--- many connections an address may have, how many of these for links without a name and for how
--- long, to which pace of lines clients keep, what these are told beside the profile, and how much
--- may wait is theirs.
+-- where no client comes in, from where proxies come, whom it calls, without the word by which
+-- pieces are counted too, and again when, by its own name too, how many connections an address may
+-- have, how many of these for links without a name and for how long, to which pace of lines clients
+-- keep, what these are told beside the profile, and how much may wait is theirs.
 pub record IsSetUp (settings : Settings) (setup : Setup) : Type 0 where
   pub config : Config
   pub configures : Configures settings config
@@ -139,8 +139,8 @@ pub record IsSetUp (settings : Settings) (setup : Setup) : Type 0 where
   pub client_room : setup.client_room ≡ settings.client_room
   pub link_room : setup.link_room ≡ settings.link_room
 
--- why nothing is set up by settings: an address or a range that is none, a peer that cannot be called, or is
--- named as no server is, or a server that is refused
+-- why nothing is set up by settings: an address or a range that is none, a peer that cannot be
+-- called, or is named as no server is, or a server that is refused
 pub data IsRefused (settings : Settings) : Type 0 where
   clients : IsNoAddress (string_bytes settings.listen) → IsRefused settings
   links : {text : List ℕ} → option_map string_bytes settings.listen_links ≡ Some text
