@@ -1,11 +1,10 @@
 -- Bytes that begin and end as a mark does.
-use Rattle.std.proofs.Common.{◌≡◌, ◌∙◌, sym, ap, subst, refl, ℕ, suc, ◌+◌, ◌-◌, ◌<◌, ◌≤◌, Bool, true}
-use Rattle.std.proofs.Common.{false, ◌&&◌, ◌||◌, nat_eq, List, [], ◌∷◌, ◌++◌, length, take, drop}
-use Rattle.std.proofs.Common.{arith, true≢false, length-append, length-drop, length-take, cond, ◌⊎◌}
-use Rattle.std.proofs.Common.{inl, inr}
+use Rattle.std.proofs.Common.{◌≡◌, ◌∙◌, sym, ap, subst, refl, ℕ, ◌-◌, ◌≤◌, Bool}
+use Rattle.std.proofs.Common.{true, false, ◌&&◌, ◌||◌, nat_eq, List, [], ◌∷◌, ◌++◌, length, take, drop}
+use Rattle.std.proofs.Common.{arith, length-append, length-drop, length-take}
 use Rattle.std.proofs.lemmas.Bool.{eqb-true}
-use Rattle.std.proofs.lemmas.List.{drop-append-le, take-append-drop}
-use Rattle.std.specs.List.{starts_with, ends_with}
+use Rattle.std.proofs.lemmas.List.{drop-append-le}
+use Rattle.std.specs.List.{starts_with}
 use Rattle.irc_turns.specs.ProxyLines.{ends_in, line_end}
 use Rattle.irc_turns.specs.Proxying.{agrees}
 use lib.Pointwise.{pointwise, pointwise_long}

@@ -1,13 +1,14 @@
 -- What is told of a header, by parts.
-use Rattle.std.proofs.Common.{◌≡◌, ◌∙◌, ◌≤◌, refl, sym, ℕ, true, false, Option, Some, None, List, arith}
-use Rattle.std.proofs.Common.{true≢false}
+use Rattle.std.proofs.Common.{◌≡◌, ◌∙◌, ◌≤◌, refl, sym, ℕ, true, false, Option, List}
+use Rattle.std.proofs.Common.{arith, true≢false}
 use Rattle.std.specs.declared.net.ip_addr.IpAddr.{IpAddr}
 use Rattle.irc_turns.specs.ProxyLines.{IsLine, IsNamed, family_of, is_line, without_end}
 use Rattle.irc_turns.specs.Proxying.{IsOfKind, NamesBy, TellsBy, more_in, tells}
 use Rattle.irc_turns.specs.declared.proxy_header.HeaderKind.{HeaderKind}
 use Rattle.irc_turns.specs.declared.proxy_header.HeaderKind.TheVariants.{Line, Bytes, Neither}
 use Rattle.irc_turns.specs.declared.proxy_header.ProxyHeader.{ProxyHeader}
-use Rattle.irc_turns.specs.declared.proxy_header.ProxyHeader.TheVariants.{Wants, Bad, Unnamed, Names}
+use Rattle.irc_turns.specs.declared.proxy_header.ProxyHeader.TheVariants.{Wants, Bad, Unnamed}
+use Rattle.irc_turns.specs.declared.proxy_header.ProxyHeader.TheVariants.{Names}
 
 -- where no more is wanted, none is
 pub none_left : {more wanted : ℕ} → more ≡ wanted → more ≤ 0 → wanted ≡ 0

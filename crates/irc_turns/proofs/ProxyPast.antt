@@ -1,21 +1,21 @@
 -- What is wanted of a header is never more than it has.
-use Rattle.std.proofs.Common.{◌≡◌, ◌∙◌, sym, ap, subst, refl, ℕ, suc, ◌+◌, ◌-◌, ◌*◌, ◌<◌, ◌≤◌, Bool}
-use Rattle.std.proofs.Common.{true, false, ◌&&◌, ◌||◌, nat_eq, nat_lt, min, List, [], ◌∷◌, ◌++◌, cond}
-use Rattle.std.proofs.Common.{length, take, drop, codes, arith, length-append, length-drop}
+use Rattle.std.proofs.Common.{◌≡◌, ◌∙◌, sym, ap, subst, refl, ℕ, ◌+◌, ◌-◌, ◌*◌, ◌≤◌, Bool}
+use Rattle.std.proofs.Common.{true, false, ◌||◌, nat_eq, nat_lt, min, List, [], ◌∷◌, ◌++◌}
+use Rattle.std.proofs.Common.{cond, length, drop, codes, arith, length-append, length-drop}
 use Rattle.std.proofs.Common.{length-take, Option, Some, None, append-nil, bytes_eq, if◌then◌else◌}
 use Rattle.std.proofs.Math.Nat.{min-le_left}
-use Rattle.std.proofs.lemmas.Bool.{eqb-true, ltb-true, ltb-false}
+use Rattle.std.proofs.lemmas.Bool.{eqb-true, ltb-false}
 use Rattle.std.proofs.lemmas.List.{get_or_append_left}
 use Rattle.std.proofs.lemmas.List.Splits.{length-slice_split}
 use Rattle.std.proofs.lemmas.List.Sums.{count_by-le-length}
-use Rattle.std.specs.List.{starts_with, count_by}
+use Rattle.std.specs.List.{starts_with}
 use Rattle.std.specs.declared.net.ip_addr.IpAddr.{IpAddr}
-use Rattle.irc_turns.specs.ProxyBytes.{IsBytes, behind, byte_at, is_taken, is_whole, more_of_bytes}
+use Rattle.irc_turns.specs.ProxyBytes.{IsBytes, behind, is_taken, is_whole, more_of_bytes}
 use Rattle.irc_turns.specs.ProxyLaws.{NothingBehindIsWanted}
 use Rattle.irc_turns.specs.ProxyLines.{AreEnds, IsLine, IsNamed, IsSource, ends_in, family_of}
-use Rattle.irc_turns.specs.ProxyLines.{is_line, is_space, is_unknown, line_end, more_of_line}
-use Rattle.irc_turns.specs.ProxyLines.{without_end, words_of}
-use Rattle.irc_turns.specs.Proxying.{IsHeader, IsOfKind, agrees, kind_of, more_in, more_of}
+use Rattle.irc_turns.specs.ProxyLines.{is_space, is_unknown, line_end, more_of_line}
+use Rattle.irc_turns.specs.ProxyLines.{without_end}
+use Rattle.irc_turns.specs.Proxying.{IsOfKind, agrees, kind_of, more_in}
 use Rattle.irc_turns.specs.Proxying.{signature}
 use Rattle.irc_turns.specs.declared.proxy_line.LineFamily.TheVariants.{Tcp4, Tcp6, Unknown, Other}
 use Rattle.irc_turns.specs.declared.proxy_header.HeaderKind.{HeaderKind}

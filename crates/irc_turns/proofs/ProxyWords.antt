@@ -1,7 +1,7 @@
 -- A text at its first space.
-use Rattle.std.proofs.Common.{◌≡◌, ◌∙◌, sym, ap, refl, ℕ, ◌+◌, ◌<◌, ◌≤◌, nat_lt, Bool, true, false}
-use Rattle.std.proofs.Common.{cond, Option, Some, None, List, [], ◌∷◌, length, take, drop, position}
-use Rattle.std.proofs.Common.{◌-◌, suc, nat_eq, arith}
+use Rattle.std.proofs.Common.{◌≡◌, ◌∙◌, sym, ap, refl, ℕ, ◌+◌, ◌≤◌, nat_lt, Bool, true, false}
+use Rattle.std.proofs.Common.{cond, Some, None, List, [], ◌∷◌, length, take, drop, position}
+use Rattle.std.proofs.Common.{◌-◌, nat_eq, arith}
 use Rattle.std.proofs.Math.Nat.{lt_of_lt_of_le}
 use Rattle.std.proofs.lemmas.Bool.{ltb-true, ltb-false, ne_eqb}
 use Rattle.std.proofs.lemmas.List.{take_rest}

@@ -1,5 +1,5 @@
 -- Ranges that are read one by one.
-use Rattle.std.proofs.Common.{◌≡◌, ◌∙◌, sym, ap, subst, ℕ, Option, Some, None, List, [], ◌∷◌, ◌++◌}
+use Rattle.std.proofs.Common.{◌≡◌, ◌∙◌, sym, ap, subst, Some, None, List, [], ◌∷◌, ◌++◌}
 use Rattle.std.proofs.Common.{append_assoc, append-nil, length, map, string_bytes, String}
 use Rattle.std.proofs.lemmas.List.{nil_from_length}
 use Rattle.std.specs.declared.alloc.Global.{Global}
@@ -7,8 +7,8 @@ use Rattle.irc_turns.specs.Ranges.{AreRanges, IsSomeNoRange, ReadsRange, later, 
 use Rattle.irc_turns.specs.Ranges.{this}
 use Rattle.irc_turns.specs.declared.address_range.AddressRange.{AddressRange}
 
--- what the ranges of those that are left are, behind the ranges so far, those of all are; and one of
--- all is none where one of these is
+-- what the ranges of those that are left are, behind the ranges so far, those of all are; and one
+-- of all is none where one of these is
 pub record Left (rest all : List (String Global)) (so_far : List AddressRange) : Type 0 where
   pub ranges : (more : List AddressRange) → AreRanges (map string_bytes rest) more
       → AreRanges (map string_bytes all) (so_far ++ more)

@@ -1,14 +1,14 @@
 -- Who is in a range, and what a header is: the examples of `Ranges.antt`, `ProxyLines.antt` and
 -- `ProxyBytes.antt`.
-use Rattle.std.specs.Prelude.{◌≡◌, ℕ, true, false, Option, Some, None, List, [], ◌∷◌, ◌++◌, codes}
+use Rattle.std.specs.Prelude.{◌≡◌, ℕ, true, false, Some, None, List, [], ◌∷◌, ◌++◌, codes}
 use Rattle.std.specs.Prelude.{replicate}
 use Rattle.std.specs.declared.net.ip_addr.IpAddr.{IpAddr}
 use Rattle.std.specs.declared.net.ip_addr.IpAddr.TheVariants.{V4, V6}
-use Rattle.irc_turns.specs.ProxyBytes.{behind, is_whole, more_of_bytes, named_by}
-use Rattle.irc_turns.specs.ProxyLines.{family_of, is_line, is_port, more_of_line, words_of}
+use Rattle.irc_turns.specs.ProxyBytes.{is_whole, named_by}
+use Rattle.irc_turns.specs.ProxyLines.{family_of, is_line, is_port, words_of}
 use Rattle.irc_turns.specs.Proxying.{kind_of, more_of, signature}
 use Rattle.irc_turns.specs.Ranges.{before_slash, behind_slash, bits_said, is_within, range_of}
-use Rattle.irc_turns.specs.declared.proxy_header.HeaderKind.TheVariants.{Line, Bytes, Neither}
+use Rattle.irc_turns.specs.declared.proxy_header.HeaderKind.TheVariants.{Neither}
 use Rattle.irc_turns.specs.declared.proxy_line.LineFamily.TheVariants.{Tcp4, Tcp6, Unknown, Other}
 
 -- an address of IPv4 by its octets, and one of IPv6 by its first segment, its second and its last

@@ -9,7 +9,8 @@ use Rattle.irc_turns.specs.ProxyLines.{IsLine, more_of_line}
 use Rattle.irc_turns.specs.declared.proxy_header.HeaderKind.{HeaderKind}
 use Rattle.irc_turns.specs.declared.proxy_header.HeaderKind.TheVariants.{Line, Bytes, Neither}
 use Rattle.irc_turns.specs.declared.proxy_header.ProxyHeader.{ProxyHeader}
-use Rattle.irc_turns.specs.declared.proxy_header.ProxyHeader.TheVariants.{Wants, Bad, Unnamed, Names}
+use Rattle.irc_turns.specs.declared.proxy_header.ProxyHeader.TheVariants.{Wants, Bad, Unnamed}
+use Rattle.irc_turns.specs.declared.proxy_header.ProxyHeader.TheVariants.{Names}
 
 -- ---- what bytes are by what headers are
 

@@ -1,4 +1,4 @@
-use Rattle.std.proofs.Common.{◌≡◌, ◌<◌, sym}
+use Rattle.std.proofs.Common.{sym}
 use Rattle.std.proofs.Math.Nat.{div-eq_of_lt, lt_of_lt_of_le}
 use Rattle.std.proofs.Math.Pow.{pow_mono}
 use Rattle.irc_turns.proofs.address_range.front.Goals as goal

@@ -1,4 +1,4 @@
-use Rattle.std.proofs.Common.{Some, None, string_bytes, subst}
+use Rattle.std.proofs.Common.{Some, None, subst}
 use Rattle.irc_turns.specs.Ranges.{ReadsRange}
 use Rattle.irc_turns.proofs.RangesRead.{left_behind, left_here, left_nothing}
 use Rattle.irc_turns.proofs.address_range.read_ranges.Goals as goal

@@ -1,4 +1,4 @@
-use Rattle.std.proofs.Common.{◌≡◌, ◌∙◌, sym, true≢false}
+use Rattle.std.proofs.Common.{◌∙◌, sym, true≢false}
 use Rattle.irc_turns.specs.Proxying.{wants, tells}
 use Rattle.irc_turns.proofs.ProxyHeaders.{none_left}
 use Rattle.irc_turns.proofs.proxy_bytes.read_bytes.Goals as goal

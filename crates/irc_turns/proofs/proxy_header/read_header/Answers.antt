@@ -1,4 +1,4 @@
-use Rattle.std.proofs.Common.{◌≡◌, ◌∙◌, sym}
+use Rattle.std.proofs.Common.{◌∙◌, sym}
 use Rattle.irc_turns.proofs.ProxyHeaders.{no_kind}
 use Rattle.irc_turns.proofs.proxy_header.read_header.Goals as goal
 

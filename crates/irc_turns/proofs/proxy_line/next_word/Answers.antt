@@ -1,4 +1,4 @@
-use Rattle.std.proofs.Common.{◌≡◌, ◌∙◌, sym}
+use Rattle.std.proofs.Common.{◌∙◌, sym}
 use Rattle.irc_turns.specs.ProxyLines.{is_space}
 use Rattle.irc_turns.proofs.ProxyWords.{first_word_taken, one_word}
 use Rattle.irc_turns.proofs.proxy_line.next_word.Goals as goal

@@ -1,4 +1,4 @@
-use Rattle.std.proofs.Common.{◌≡◌, ◌∙◌, sym}
+use Rattle.std.proofs.Common.{◌∙◌, sym}
 use Rattle.irc_turns.specs.Proxying.{wants, tells}
 use Rattle.irc_turns.proofs.ProxyHeaders.{line_named, no_line, none_left}
 use Rattle.irc_turns.proofs.proxy_line.read_line.Goals as goal
