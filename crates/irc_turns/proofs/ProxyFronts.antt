@@ -1,6 +1,7 @@
 -- Bytes that begin and end as a mark does.
 use Rattle.std.proofs.Common.{◌≡◌, ◌∙◌, sym, ap, subst, refl, ℕ, ◌-◌, ◌≤◌, Bool}
-use Rattle.std.proofs.Common.{true, false, ◌&&◌, ◌||◌, nat_eq, List, [], ◌∷◌, ◌++◌, length, take, drop}
+use Rattle.std.proofs.Common.{true, false, ◌&&◌, ◌||◌, nat_eq, List}
+use Rattle.std.proofs.Common.{[], ◌∷◌, ◌++◌, length, take, drop}
 use Rattle.std.proofs.Common.{arith, length-append, length-drop, length-take}
 use Rattle.std.proofs.lemmas.Bool.{eqb-true}
 use Rattle.std.proofs.lemmas.List.{drop-append-le}

@@ -11,12 +11,15 @@ use Rattle.std.proofs.lemmas.List.Sums.{count_by-le-length}
 use Rattle.std.specs.List.{starts_with}
 use Rattle.std.specs.declared.net.ip_addr.IpAddr.{IpAddr}
 use Rattle.irc_turns.specs.ProxyBytes.{IsBytes, behind, is_taken, is_whole, more_of_bytes}
-use Rattle.irc_turns.specs.ProxyLaws.{NothingBehindIsWanted}
+use Rattle.irc_turns.specs.ProxyLaws.{HeadersAreTaken, NothingBehindIsWanted}
 use Rattle.irc_turns.specs.ProxyLines.{AreEnds, IsLine, IsNamed, IsSource, ends_in, family_of}
 use Rattle.irc_turns.specs.ProxyLines.{is_space, is_unknown, line_end, more_of_line}
 use Rattle.irc_turns.specs.ProxyLines.{without_end}
 use Rattle.irc_turns.specs.Proxying.{IsOfKind, agrees, kind_of, more_in}
 use Rattle.irc_turns.specs.Proxying.{signature}
+use Rattle.irc_turns.specs.Proxying.{IsHeader, tells, wants}
+use Rattle.irc_turns.specs.declared.proxy_header.ProxyHeader.TheVariants.{Wants, Bad, Unnamed}
+use Rattle.irc_turns.specs.declared.proxy_header.ProxyHeader.TheVariants.{Names}
 use Rattle.irc_turns.specs.declared.proxy_line.LineFamily.TheVariants.{Tcp4, Tcp6, Unknown, Other}
 use Rattle.irc_turns.specs.declared.proxy_header.HeaderKind.{HeaderKind}
 use Rattle.irc_turns.specs.declared.proxy_header.HeaderKind.TheVariants.{Line, Bytes, Neither}
@@ -190,3 +193,17 @@ not_past (b ∷ bytes) rest named Bytes Line here_is there_is is =
 pub nothing_behind_is_wanted : NothingBehindIsWanted
 nothing_behind_is_wanted bytes rest named is =
     not_past bytes rest named (kind_of bytes) (kind_of (bytes ++ rest)) refl refl is
+
+pub headers_are_taken : HeadersAreTaken
+headers_are_taken bytes named (Wants count) is (wants {count = more} count_is some) =
+    absurd (omega (
+      arith,
+      count_is,
+      some,
+      nothing_behind_is_wanted bytes [] named
+          (subst (λ all. IsHeader all named) (sym (append-nil bytes)) is),
+    ))
+headers_are_taken bytes named (Wants count) is (tells none never) = absurd never
+headers_are_taken bytes named Bad is (tells none never) = absurd (never named is)
+headers_are_taken bytes named Unnamed is told = refl
+headers_are_taken bytes named (Names address) is told = refl

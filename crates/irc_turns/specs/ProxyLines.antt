@@ -1,7 +1,8 @@
 -- The line with which a proxy says for whom it comes, version 1 of the PROXY protocol
 -- (proxy-protocol.txt section 2.1).
 use Rattle.std.specs.Prelude.{◌≡◌, ℕ, ◌-◌, Bool, true, false, ◌&&◌, ◌||◌, nat_eq}
-use Rattle.std.specs.Prelude.{nat_lt, nat_le, if◌then◌else◌, min, ⊤, Option, Some, None, List, [], ◌∷◌, length}
+use Rattle.std.specs.Prelude.{nat_lt, nat_le, if◌then◌else◌, min, ⊤, Option}
+use Rattle.std.specs.Prelude.{Some, None, List, [], ◌∷◌, length}
 use Rattle.std.specs.Prelude.{take, drop, codes}
 use Rattle.std.specs.List.{slice_split, starts_with, ends_with}
 use Rattle.std.specs.Option.{option_map_or}

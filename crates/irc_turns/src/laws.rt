@@ -1,7 +1,7 @@
 //! Who is in a range, and what a header is, computed. A law is a function that does nothing, and
 //! its contract is the law: the check proves it.
 ghost use Rattle.irc_turns.specs.Examples.{BytesAreRead, LinesAreWanted, RangesHave};
-ghost use Rattle.irc_turns.specs.ProxyLaws.{NothingBehindIsWanted};
+ghost use Rattle.irc_turns.specs.ProxyLaws.{HeadersAreTaken, NothingBehindIsWanted};
 
 /// Addresses in ranges and beside them.
 pub fn ranges_have()
@@ -17,4 +17,9 @@ pub fn headers_are_read()
 /// Nothing of what follows a header is wanted.
 pub fn nothing_behind_is_wanted()
     ensures { NothingBehindIsWanted }
+{}
+
+/// A whole header is taken.
+pub fn headers_are_taken()
+    ensures { HeadersAreTaken }
 {}
