@@ -130,24 +130,36 @@ pub record IsSameDoorman {M : Type 0} (old new : Doorman M) : Type 0 where
   pub moment : new.moment ≡ old.moment
   pub next_look : new.next_look ≡ old.next_look
 
--- What may come of an event: the machine handles what it is given, and the doorman says what it
--- says; the machine refuses it, and so does the doorman; or memory runs out.
+-- What may come of an event that the machine is given: it is handled; it is refused; or memory runs
+-- out.
+pub data IsPassed {M : Type 0} (handles : Handles M) (old : Doorman M) (event : Event)
+    (before : List Sent) : Result (Unit {0}) ServerFault → Doorman M → List Sent → Type 0 where
+  passes : {new : Doorman M} {after : List Sent}
+      → handles old.machine event before (Ok tt) new.machine after
+      → guest_at new.guests ≡ guests_behind old.asks old.moment event (guest_at old.guests)
+      → IsSameDoorman old new → IsPassed handles old event before (Ok tt) new after
+  refuses : {new : Doorman M} {after : List Sent} (fault : ServerFault)
+      → handles old.machine event before (Err fault) new.machine after
+      → guest_at new.guests ≡ guest_at old.guests
+      → IsSameDoorman old new → IsPassed handles old event before (Err fault) new after
+  wants_memory : {new : Doorman M} {after : List Sent} (fault : ServerFault)
+      → is_out_of_memory fault ≡ true → IsPassed handles old event before (Err fault) new after
+
+-- What may come of an event: the machine is given what it is to be, and behind that the doorman
+-- says what it says.
 pub data IsAdmitted {M : Type 0} (server_of : M → Option View) (handles : Handles M)
     (old : Doorman M) (event : Event) (before : List Sent)
     : Result (Unit {0}) ServerFault → Doorman M → List Sent → Type 0 where
   admits : {new : Doorman M} {after : List Sent} (fate : Fate) (between : List Sent)
       → fate ≡ fate_at (server_of old.machine) (guest_at old.guests) event
-      → handles old.machine (given fate event) before (Ok tt) new.machine between
+      → IsPassed handles old (given fate event) before (Ok tt) new between
       → after ≡ between ++ told old.asks fate (conn_of event)
-      → guest_at new.guests
-        ≡ guests_behind old.asks old.moment (given fate event) (guest_at old.guests)
-      → IsSameDoorman old new → IsAdmitted server_of handles old event before (Ok tt) new after
-  refuses : {new : Doorman M} {after : List Sent} (fate : Fate) (fault : ServerFault)
+      → IsAdmitted server_of handles old event before (Ok tt) new after
+  does_not : {new : Doorman M} {after : List Sent} (fate : Fate) (fault : ServerFault)
       → fate ≡ fate_at (server_of old.machine) (guest_at old.guests) event
-      → handles old.machine (given fate event) before (Err fault) new.machine after
-      → guest_at new.guests ≡ guest_at old.guests
-      → IsSameDoorman old new → IsAdmitted server_of handles old event before (Err fault) new after
-  wants_memory : {new : Doorman M} {after : List Sent} (fault : ServerFault)
+      → IsPassed handles old (given fate event) before (Err fault) new after
+      → IsAdmitted server_of handles old event before (Err fault) new after
+  has_no_memory : {new : Doorman M} {after : List Sent} (fault : ServerFault)
       → is_out_of_memory fault ≡ true
       → IsAdmitted server_of handles old event before (Err fault) new after
 
@@ -158,6 +170,13 @@ pub record State (M : Type 0) : Type 0 where
   pub machine : M
   pub guests : Guests
   pub outs : List Sent
+
+abbrev pub state_of : {M : Type 0} → M → Guests → List Sent → State M
+state_of machine guests outs = record { machine = machine; guests = guests; outs = outs }
+
+-- those of a doorman, and what is put out
+abbrev pub state_with : {M : Type 0} → Doorman M → List Sent → State M
+state_with doorman outs = state_of doorman.machine (guest_at doorman.guests) outs
 
 abbrev pub with_guests : {M : Type 0} → Guests → State M → State M
 with_guests guests state = record state { guests = guests }
@@ -177,7 +196,7 @@ pub data IsAsked {M : Type 0} (server_of : M → Option View) (handles : Handles
   asks_it : (guest : Guest) → is_there (server_of old.machine) conn ≡ true
       → old.guests conn ≡ Some guest → guest.is_asked ≡ false
       → IsAsked server_of handles asks moment conn old (record old {
-        guests = with_guest conn (Some (guest_asked moment guest)) old.guests;
+        guests = change_guest conn (guest_asked moment) old.guests;
         outs = old.outs ++ line_to conn (text (ping asks.server)) ∷ [];
       })
   ends_it : (guest : Guest) (new : State M) → is_there (server_of old.machine) conn ≡ true
@@ -218,9 +237,6 @@ next_look_behind doorman moment =
     if looks_at doorman.asks.ping_after doorman.next_look moment then later moment 1000
     else doorman.next_look
 
-abbrev pub state_of : {M : Type 0} → M → Guests → List Sent → State M
-state_of machine guests outs = record { machine = machine; guests = guests; outs = outs }
-
 -- What may come of what is due: what is due of the machine is done, and those who are silent are
 -- asked; or memory runs out.
 pub data IsWatched {M : Type 0} (server_of : M → Option View) (handles : Handles M)
@@ -229,11 +245,10 @@ pub data IsWatched {M : Type 0} (server_of : M → Option View) (handles : Handl
   watches : {new : Doorman M} {after : List Sent} (machine : M) (between : List Sent)
       → IsDue dues old.machine moment before (Ok tt) machine between
       → AreAsked server_of handles old.asks moment (silent_at old.asks.ping_after old moment)
-        (state_of machine (guest_at old.guests) between)
-        (state_of new.machine (guest_at new.guests) after)
+        (state_of machine (guest_at old.guests) between) (state_with new after)
       → new.asks ≡ old.asks → new.moment ≡ moment → new.next_look ≡ next_look_behind old moment
       → IsWatched server_of handles dues old moment before (Ok tt) new after
-  has_no_memory : {new : Doorman M} {after : List Sent} (fault : ServerFault)
+  lacks_memory : {new : Doorman M} {after : List Sent} (fault : ServerFault)
       → is_out_of_memory fault ≡ true
       → IsWatched server_of handles dues old moment before (Err fault) new after
 

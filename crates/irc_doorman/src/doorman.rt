@@ -1,9 +1,13 @@
 //! A doorman in front of a machine.
-ghost use Rattle.std.specs.Prelude.{◌≡◌, ◌++◌, ◌∷◌, [], ◌*◌, IfOk, OnOk, None, Some, true};
-ghost use Rattle.irc_batch.specs.Batches.{end_of, line_to};
-ghost use Rattle.irc_line.specs.Messages.{text};
-ghost use Rattle.irc_doorman.specs.Doormen.{fate_at, guest_at, guests_behind, silent_of, told};
-ghost use Rattle.irc_doorman.specs.Doormen.{with_guest, AreAsked, IsAsked};
+ghost use Rattle.std.specs.Prelude.{◌≡◌, ◌++◌, IfErr, IfOk, OnOk, None, Ok, true};
+ghost use Rattle.std.specs.Option.{option_copied, option_map};
+ghost use Rattle.irc_engine.specs.Machines.{is_out_of_memory, IsConnectedBy, IsRefusal};
+ghost use Rattle.irc_engine.specs.Machines.{IsStillConnected};
+ghost use Rattle.irc_doorman.specs.Doormen.{change_guest, conn_of, fate_at, guest_at};
+ghost use Rattle.irc_doorman.specs.Doormen.{guests_behind, is_there, line_fate, quits, silent_of};
+ghost use Rattle.irc_doorman.specs.Doormen.{state_with, told, with_guest, with_new, AreAsked};
+ghost use Rattle.irc_doorman.specs.Doormen.{IsAsked, IsPassed, IsSameDoorman};
+ghost use Rattle.irc_doorman.specs.Guests.{guest_asked};
 
 use crate::asks::Asks;
 use crate::guest::{Fate, Guest};
@@ -63,41 +67,65 @@ impl<M: Machine> Doorman<M> {
         }
     }
 
-    /// The machine is given an event as it came.
-    fn pass(&mut self, event: &Event, out: &mut Batch) -> Result<(), ServerFault> {
+    /// The machine is given an event.
+    fn pass(&mut self, event: &Event, out: &mut Batch) -> Result<(), ServerFault>
+        ensures passed { IsPassed M.handles self.old event.now out.old.outs result self.new
+            out.new.outs }
+        ensures connected { OnOk result (IsConnectedBy (M.server_of self.old.machine) event.now
+            out.old.outs (M.server_of self.new.machine) out.new.outs) }
+        ensures refused { IfErr result (IsRefusal (M.server_of self.old.machine) event.now) }
+    {
         self.machine.handle(event, out)?;
         note(&mut self.guests, &self.asks, self.moment, event)?;
         Ok(())
     }
 
-    /// A client has given no password, or another: the machine is told that it is gone.
-    fn turn_away(&mut self, conn: u64, out: &mut Batch) -> Result<(), ServerFault> {
-        self.pass(&Event::Gone(conn), out)?;
-        out.put(conn, bad_password_text(&self.asks.server).as_slice())?;
-        out.put(conn, closing_text().as_slice())?;
-        out.close(conn)?;
-        Ok(())
+    /// The machine is told that a client is gone. An event is half a kilobyte, which is cleared as
+    /// the function that makes it begins: so this is made in one that runs for it alone.
+    fn leave(&mut self, conn: u64, out: &mut Batch) -> Result<(), ServerFault>
+        ensures passed { IsPassed M.handles self.old (Event.Gone conn) out.old.outs result self.new
+            out.new.outs }
+        ensures connected { OnOk result (IsConnectedBy (M.server_of self.old.machine)
+            (Event.Gone conn) out.old.outs (M.server_of self.new.machine) out.new.outs) }
+        ensures refused { IfErr result
+            (IsRefusal (M.server_of self.old.machine) (Event.Gone conn)) }
+    {
+        self.pass(&Event::Gone(conn), out)
     }
 
-    /// Asks those who have said nothing for so long.
-    fn look(&mut self, silence: u64, moment: Moment, out: &mut Batch) -> Result<(), AllocError> {
-        for conn in silent(self.alloc, &self.guests, silence, moment)? {
+    /// Asks those who have said nothing for so many milliseconds.
+    fn look(&mut self, silence: u64, moment: Moment, out: &mut Batch) -> Result<(), AllocError>
+        ensures asked { OnOk result (AreAsked M.server_of M.handles self.old.asks moment
+            (silent_of silence moment self.old.guests) (state_with self.old out.old.outs)
+            (state_with self.new out.new.outs)) }
+        ensures same { IsSameDoorman self.old self.new }
+        ensures connected { OnOk result (IsStillConnected (M.server_of self.old.machine)
+            out.old.outs (M.server_of self.new.machine) out.new.outs) }
+    {
+        let conns = silent(self.alloc, &self.guests, silence, moment)?;
+        let mut rest = conns.into_iter();
+        while let Some(conn) = rest.next() {
             self.ask(conn, moment, out)?;
         }
         Ok(())
     }
 
     /// Asks a client that is silent whether it is there; one that was asked has its QUIT.
-    fn ask(&mut self, conn: u64, moment: Moment, out: &mut Batch) -> Result<(), AllocError> {
+    fn ask(&mut self, conn: u64, moment: Moment, out: &mut Batch) -> Result<(), AllocError>
+        ensures asked { OnOk result (IsAsked M.server_of M.handles self.old.asks moment conn
+            (state_with self.old out.old.outs) (state_with self.new out.new.outs)) }
+        ensures same { IsSameDoorman self.old self.new }
+        ensures connected { OnOk result (IsStillConnected (M.server_of self.old.machine)
+            out.old.outs (M.server_of self.new.machine) out.new.outs) }
+    {
         if !self.machine.server().has_client(conn) {
             self.guests.remove(&conn);
             return Ok(());
         }
-        match self.guests.get_mut(&conn) {
-            Some(guest) if guest.is_asked => self.end(conn, out),
-            Some(guest) => {
-                guest.is_asked = true;
-                guest.since = moment;
+        match is_asked(self.guests.get(&conn)) {
+            Some(true) => self.end(conn, out),
+            Some(false) => {
+                mark_asked(&mut self.guests, conn, moment);
                 out.put(conn, ping_text(&self.asks.server).as_slice())
             }
             None => Ok(()),
@@ -105,7 +133,16 @@ impl<M: Machine> Doorman<M> {
     }
 
     /// The machine is given the QUIT of a client that does not answer.
-    fn end(&mut self, conn: u64, out: &mut Batch) -> Result<(), AllocError> {
+    fn end(&mut self, conn: u64, out: &mut Batch) -> Result<(), AllocError>
+        requires there { is_there (M.server_of self.old.machine) conn ≡ true }
+        ensures ended { OnOk result (M.handles self.old.machine (quits conn) out.old.outs (Ok tt)
+            self.new.machine out.new.outs) }
+        ensures guests { guest_at self.new.guests
+            ≡ with_guest conn None (guest_at self.old.guests) }
+        ensures same { IsSameDoorman self.old self.new }
+        ensures connected { OnOk result (IsStillConnected (M.server_of self.old.machine)
+            out.old.outs (M.server_of self.new.machine) out.new.outs) }
+    {
         self.guests.remove(&conn);
         match self.machine.handle(&Event::Line(conn, quit_line()), out) {
             Ok(()) => Ok(()),
@@ -114,8 +151,56 @@ impl<M: Machine> Doorman<M> {
     }
 }
 
-/// What becomes of a line of a client of which this is known.
-fn fate_of(guest: Option<&Guest>, line: &[u8]) -> Fate {
+/// Whether a client was asked, if it is known.
+fn is_asked(guest: Option<&Guest>) -> Option<bool>
+    ensures { result ≡ option_map (λ (guest : Guest). guest.is_asked) (option_copied guest.entry) }
+{
+    match guest {
+        Some(guest) => Some(guest.is_asked),
+        None => None,
+    }
+}
+
+/// A client is asked at a moment.
+fn mark_asked(guests: &mut Guests, conn: u64, moment: Moment)
+    ensures { guest_at guests.new
+        ≡ change_guest conn (guest_asked moment) (guest_at guests.old) }
+{
+    if let Some(guest) = guests.get_mut(&conn) {
+        guest.since = moment;
+        guest.is_asked = true;
+    }
+}
+
+/// The client that an event is of; any number, where it is of a link.
+fn conn_of(event: &Event) -> u64
+    ensures { result ≡ conn_of event.now }
+{
+    match event {
+        Event::Connect(conn, _) | Event::Line(conn, _) | Event::Gone(conn) => *conn,
+        Event::LinkUp(_, _) | Event::LinkLine(_, _) | Event::LinkDown(_) => 0,
+    }
+}
+
+/// Says what a doorman says of itself.
+fn tell(asks: &Asks, fate: Fate, conn: u64, out: &mut Batch) -> Result<(), AllocError>
+    ensures { OnOk result (out.new.outs ≡ out.old.outs ++ told asks.now fate conn) }
+{
+    match fate {
+        Fate::Passes => Ok(()),
+        Fate::LacksWord => out.put(conn, lacking_text(&asks.server).as_slice()),
+        Fate::TurnedAway => {
+            out.put(conn, bad_password_text(&asks.server).as_slice())?;
+            out.put(conn, closing_text().as_slice())?;
+            out.close(conn)
+        }
+    }
+}
+
+/// What becomes of a line of a client that is there, and of which this is known.
+fn fate_of(guest: Option<&Guest>, line: &[u8]) -> Fate
+    ensures { result ≡ line_fate true (option_copied guest.entry) line.now }
+{
     match guest {
         Some(guest) => guest.entry.fate(line),
         None => Fate::Passes,
@@ -149,7 +234,10 @@ fn note_new(
     asks: &Asks,
     moment: Moment,
     conn: u64,
-) -> Result<(), AllocError> {
+) -> Result<(), AllocError>
+    ensures { OnOk result
+        (guest_at guests.new ≡ with_new asks.now moment conn (guest_at guests.old)) }
+{
     if !asks.asks_anything() {
         return Ok(());
     }
@@ -187,15 +275,13 @@ impl<M: Machine> Machine for Doorman<M> {
     ghost dues = { watched_by M.server_of M.handles M.dues };
 
     fn handle(&mut self, event: &Event, out: &mut Batch) -> Result<(), ServerFault> {
-        match (self.fate(event), event) {
-            (Fate::TurnedAway, Event::Line(conn, _)) => self.turn_away(*conn, out),
-            (Fate::LacksWord, Event::Line(conn, _)) => {
-                self.pass(event, out)?;
-                out.put(*conn, lacking_text(&self.asks.server).as_slice())?;
-                Ok(())
-            }
-            _ => self.pass(event, out),
+        let fate = self.fate(event);
+        match fate {
+            Fate::Passes | Fate::LacksWord => self.pass(event, out)?,
+            Fate::TurnedAway => self.leave(conn_of(event), out)?,
         }
+        tell(&self.asks, fate, conn_of(event), out)?;
+        Ok(())
     }
 
     fn due(&mut self, moment: Moment, out: &mut Batch) -> Result<(), ServerFault> {

@@ -15,7 +15,7 @@ use Rattle.irc_settings.specs.Configuration.{AreSettingsOf, is_configuration}
 use Rattle.irc_server.specs.declared.config.Config.{Config}
 use Rattle.irc_server.specs.Configuring.{config_fault, made_view}
 use Rattle.irc_stage.specs.View.{KnownPeer, View, known_peer}
-use Rattle.irc_engine.specs.Machines.{never_due, Handles}
+use Rattle.irc_engine.specs.Machines.{never_due, Dues, Handles}
 use Rattle.irc_engine.specs.Turning.{IsNew}
 use Rattle.irc_engine.specs.EngineView.{EngineViewOf}
 use Rattle.irc_engine.specs.Telling.{ToldTurnsBy}
@@ -23,7 +23,12 @@ use Rattle.irc_journal.specs.Saying.{AreSomeSaid}
 use Rattle.irc_door.specs.declared.door.Door.{Door}
 use Rattle.irc_door.specs.declared.door.Programs.{Programs}
 use Rattle.irc_door.specs.declared.door.Programs.TheVariants.{Off, Usual}
-use Rattle.irc_door.specs.Doors.{server_behind, IsTurned}
+use Rattle.irc_door.specs.Doors.{dues_by, server_behind, IsTurned}
+use Rattle.irc_doorman.specs.declared.asks.Asks.{Asks}
+use Rattle.irc_doorman.specs.declared.doorman.Doorman.{Doorman}
+use Rattle.irc_doorman.specs.Doormen.{server_behind as server_kept, watched_by, IsAdmitted}
+use Rattle.irc_doorman.specs.Doormen.{IsNewDoorman}
+use Rattle.irc_doorman.specs.Passwords.{IsClientPassword}
 use Rattle.irc_layer.specs.declared.layer.Layer.{Layer}
 use Rattle.irc_layer.specs.Layers.{server_of, IsAround, IsLayered}
 use Rattle.irc_turns.specs.Ranges.{AreRanges, IsSomeNoRange}
@@ -113,11 +118,24 @@ abbrev pub programs_set : Bool → Programs
 programs_set true = Usual
 programs_set false = Off
 
+-- clients are asked for the password of the settings, if there is one, and after so many seconds
+-- whether they are there, if these say so; the server speaks by their name
+pub record AreAsksOf (settings : Settings) (asks : Asks) : Type 0 where
+  pub server : asks.server ≡ string_bytes settings.name
+  pub password : asks.password ≡ option_map string_bytes settings.password
+  pub ping_after : asks.ping_after ≡ settings.ping_after
+
+-- they cannot be: the name is no server's, or the password none that a client can give
+pub data CannotBeAsked (settings : Settings) : Type 0 where
+  no_server : ¬ (IsServer (string_bytes settings.name)) → CannotBeAsked settings
+  no_password : {text : List ℕ} → option_map string_bytes settings.password ≡ Some text
+      → ¬ (IsClientPassword text) → CannotBeAsked settings
+
 -- The server is made of the settings, without clients, and of their name; where it listens, from
 -- where no client comes in, from where proxies come, whom it calls, without the word by which
 -- pieces are counted too, and again when, by its own name too, how many connections an address may
 -- have, how many of these for links without a name and for how long, to which pace of lines clients
--- keep, what these are told beside the profile, and how much may wait is theirs.
+-- keep, what these are told beside the profile and asked, and how much may wait is theirs.
 pub record IsSetUp (settings : Settings) (setup : Setup) : Type 0 where
   pub config : Config
   pub configures : Configures settings config
@@ -136,11 +154,12 @@ pub record IsSetUp (settings : Settings) (setup : Setup) : Type 0 where
   pub register_within : setup.register_within ≡ settings.register_within
   pub pace : setup.pace ≡ pace_set settings.pace
   pub programs : setup.programs ≡ programs_set settings.programs
+  pub asks : AreAsksOf settings setup.asks
   pub client_room : setup.client_room ≡ settings.client_room
   pub link_room : setup.link_room ≡ settings.link_room
 
 -- why nothing is set up by settings: an address or a range that is none, a peer that cannot be
--- called, or is named as no server is, or a server that is refused
+-- called, or is named as no server is, a server that is refused, or clients that cannot be asked
 pub data IsRefused (settings : Settings) : Type 0 where
   clients : IsNoAddress (string_bytes settings.listen) → IsRefused settings
   links : {text : List ℕ} → option_map string_bytes settings.listen_links ≡ Some text
@@ -150,6 +169,7 @@ pub data IsRefused (settings : Settings) : Type 0 where
   called : IsSomeUncalled settings.peers.items → IsRefused settings
   server : (config : Config) → Configures settings config → is_some (config_fault config) ≡ true
       → IsRefused settings
+  asked : CannotBeAsked settings → IsRefused settings
 
 -- what comes of settings
 abbrev pub SetsUp : Settings → Result Setup Stop → Type 0
@@ -196,23 +216,29 @@ listening_of setup =
       proxies = setup.proxies;
     }
 
--- What serves: a door in front of a layer around a server.
+-- What serves: a door in front of a doorman in front of a layer around a server.
 abbrev pub Front : Type 0
-Front = Door Layer
+Front = Door (Doorman Layer)
 
 abbrev pub front_server : Front → Option View
-front_server = server_behind server_of
+front_server = server_behind (server_kept server_of)
 
 abbrev pub IsAnswered : Handles Front
-IsAnswered = IsTurned IsLayered
+IsAnswered = IsTurned (IsAdmitted server_of IsLayered)
+
+abbrev pub front_dues : Dues Front
+front_dues = dues_by (watched_by server_of IsLayered never_due)
 
 -- An engine is open: it has served nobody, its door says to clients what was set up, in front of a
--- layer around the server that was, an outbox has room for as much as was set up, and its wire
--- listens where that was, and calls whom that was to call, again by that spread.
+-- doorman who asks what was, in front of a layer around the server that was, an outbox has room for
+-- as much as was set up, and its wire listens where that was, and calls whom that was to call,
+-- again by that spread.
 pub record IsOpened (setup : Setup) (engine : EngineViewOf MioWire Front) : Type 0 where
   pub door : Front
   pub programs : door.programs ≡ setup.programs
-  pub is_around : IsAround setup.server setup.plain.items door.machine
+  pub layer : Layer
+  pub asks : IsNewDoorman layer setup.asks door.machine
+  pub is_around : IsAround setup.server setup.plain.items layer
   pub sockets : MioWire
   pub listens : ListensAt (listening_of setup) sockets
   pub callees : sockets.calls.asked ≡ setup.callees
@@ -231,7 +257,7 @@ pub data IsUnopened (setup : Setup) (errors errors_after : Option (List ℕ)) : 
 abbrev pub FrontTurns : {W : Type 0} → (W → List Call → Type 0) → EngineViewOf W Front
     → Option (List ℕ) → ℕ → EngineViewOf W Front → Option (List ℕ) → Type 0
 FrontTurns is_after old held turns new after =
-    ToldTurnsBy is_after front_server IsAnswered never_due old held turns new after
+    ToldTurnsBy is_after front_server IsAnswered front_dues old held turns new after
 
 -- `ready` was printed, all turns were taken, and behind each what there was to tell was said; else
 -- a front of `ready` was printed, the program failed, and what was said is lines of the journal

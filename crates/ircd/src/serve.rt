@@ -10,6 +10,7 @@ ghost use Rattle.ircd.specs.Serving.{ServesFile, ServesText};
 use crate::closed_door::say_closed;
 use crate::setup::{Setup, read_setup};
 use irc_door::Door;
+use irc_doorman::Doorman;
 use irc_endings::{Stop, say_ready};
 use irc_engine::Engine;
 use irc_layer::Layer;
@@ -19,6 +20,9 @@ use std::alloc::Global;
 use std::fs::{Files, read_to_string};
 use std::io::{ErrorKind, Write};
 use std::net::Net;
+
+/// What serves.
+type Front = Door<Doorman<Layer>>;
 
 /// Serves as a file says, for so many turns. Says `ready` as soon as clients and servers can
 /// connect, and the servers that it calls are called, whether they are reached or not. What becomes
@@ -78,7 +82,7 @@ fn open<T: Net, E: Write>(
     alloc: Global,
     setup: Setup,
     errors: &mut E,
-) -> Result<Engine<MioWire, Door<Layer>>, Stop>
+) -> Result<Engine<MioWire, Front>, Stop>
     requires { HasNobody setup.server }
     ensures { Opens setup result (E.contents errors.old) (E.contents errors.new) }
 {
@@ -100,7 +104,8 @@ fn open<T: Net, E: Write>(
         Err(fault) => return Err(stop_for(fault, errors)),
     };
     let layer = Layer::new(alloc, setup.server, setup.plain);
-    let door = Door::new(alloc, layer, setup.programs);
+    let doorman = Doorman::new(alloc, layer, setup.asks);
+    let door = Door::new(alloc, doorman, setup.programs);
     let engine = Engine::new(alloc, door, wire, setup.client_room, setup.link_room)?;
     Ok(engine)
 }
@@ -122,7 +127,7 @@ fn stop_for<E: Write>(fault: ListenFault, errors: &mut E) -> Stop
 
 /// Says `ready`, and takes so many turns.
 fn run_engine<W: Wire, O: Write, E: Write>(
-    engine: &mut Engine<W, Door<Layer>>,
+    engine: &mut Engine<W, Front>,
     turns: u64,
     output: &mut O,
     errors: &mut E,
@@ -137,7 +142,7 @@ fn run_engine<W: Wire, O: Write, E: Write>(
 
 /// Takes so many turns, up to the first that is not done: it is the last, and the program fails.
 fn take_turns<W: Wire, E: Write>(
-    engine: &mut Engine<W, Door<Layer>>,
+    engine: &mut Engine<W, Front>,
     turns: u64,
     errors: &mut E,
 ) -> Result<(), Stop>

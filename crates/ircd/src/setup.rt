@@ -5,10 +5,12 @@ ghost use Rattle.irc_stage.specs.View.{known_peer};
 ghost use Rattle.irc_turns.specs.Spreads.{name_spread};
 ghost use Rattle.ircd.specs.Serving.{Configures, IsReadSetup, SetsUp, pace_set, peer_set};
 ghost use Rattle.ircd.specs.Serving.{plain_name, plain_names, programs_set};
-ghost use Rattle.ircd.specs.Loops.SettingUp.{FindsAddress, FindsCallee, FindsCallees, FindsName};
-ghost use Rattle.ircd.specs.Loops.SettingUp.{FindsOptional, FindsRanges};
+ghost use Rattle.ircd.specs.Loops.SettingUp.{FindsAddress, FindsAsks, FindsCallee, FindsCallees};
+ghost use Rattle.ircd.specs.Loops.SettingUp.{FindsName, FindsOptional, FindsPassword};
+ghost use Rattle.ircd.specs.Loops.SettingUp.{FindsRanges};
 
 use irc_door::Programs;
+use irc_doorman::{Asks, ClientPassword};
 use irc_endings::Stop;
 use irc_names::ServerName;
 use irc_routes::Own;
@@ -53,6 +55,8 @@ pub struct Setup {
     pub pace: Option<LinesPace>,
     /// What clients are told beside the profile.
     pub programs: Programs,
+    /// What clients are asked.
+    pub asks: Asks,
     /// How many bytes may wait for a client.
     pub client_room: usize,
     /// How many bytes may wait for a link.
@@ -82,6 +86,7 @@ fn set_up(alloc: Global, settings: &Settings) -> Result<Setup, Stop>
         deny: ranges(alloc, &settings.deny)?,
         proxies: ranges(alloc, &settings.proxies)?,
         server: Server::new(alloc, config(alloc, settings)?)?,
+        asks: asks(settings)?,
         plain: plain_names(alloc, &settings.peers)?,
         spread: own_spread(settings),
         connections_per_address: settings.connections_per_address,
@@ -103,6 +108,30 @@ fn programs(are_asked_for: bool) -> Programs
         Programs::Usual
     } else {
         Programs::Off
+    }
+}
+
+/// What clients are asked.
+fn asks(settings: &Settings) -> Result<Asks, Stop>
+    ensures { FindsAsks settings.now result }
+{
+    Ok(Asks {
+        server: server_name(settings.name.as_str())?,
+        password: client_password(settings.password.as_ref())?,
+        ping_after: settings.ping_after,
+    })
+}
+
+/// The password of clients that a text is, if there is a text.
+fn client_password(text: Option<&String>) -> Result<Option<ClientPassword>, Stop>
+    ensures { FindsPassword (option_map (λ text. string_bytes text.now) text.entry) result }
+{
+    let Some(text) = text else {
+        return Ok(None);
+    };
+    match ClientPassword::read(text.as_bytes()) {
+        Some(password) => Ok(Some(password)),
+        None => Err(Stop::BadConfiguration),
     }
 }
 

@@ -5,15 +5,18 @@ use Rattle.std.specs.declared.alloc.Global.{Global}
 use Rattle.std.specs.Net.Grammar.{IsSocketText}
 use Rattle.std.specs.declared.net.socket_addr.SocketAddr.{SocketAddr}
 use Rattle.irc_names.specs.Names.{IsServer}
+use Rattle.irc_doorman.specs.declared.asks.Asks.{Asks}
+use Rattle.irc_doorman.specs.Passwords.{IsClientPassword}
 use Rattle.irc_settings.specs.declared.settings.PeerSettings.{PeerSettings}
+use Rattle.irc_settings.specs.declared.settings.Settings.{Settings}
 use Rattle.irc_turns.specs.Ranges.{AreRanges, IsSomeNoRange}
 use Rattle.irc_turns.specs.declared.address_range.AddressRange.{AddressRange}
 use Rattle.irc_sockets.specs.declared.calls.Callee.{Callee}
 use Rattle.irc_endings.specs.declared.fault.Stop.{Stop}
 use Rattle.irc_endings.specs.declared.fault.Stop.TheVariants.{Usage, BadScript, BadConfiguration}
 use Rattle.irc_endings.specs.declared.fault.Stop.TheVariants.{Failed}
-use Rattle.ircd.specs.Serving.{AreCalled, CannotBeCalled, IsAddress, IsCallee, IsNoAddress}
-use Rattle.ircd.specs.Serving.{IsSomeUncalled}
+use Rattle.ircd.specs.Serving.{AreAsksOf, AreCalled, CannotBeAsked, CannotBeCalled, IsAddress}
+use Rattle.ircd.specs.Serving.{IsCallee, IsNoAddress, IsSomeUncalled}
 
 -- the address that a text is, or that it is none
 abbrev pub FindsAddress : List ℕ → Result SocketAddr Stop → Type 0
@@ -38,6 +41,17 @@ FindsRanges texts (Err (BadScript line)) = ⊥
 abbrev pub FindsName : List ℕ → Result (List ℕ) Stop → Type 0
 FindsName text (Ok name) = name ≡ text
 FindsName text (Err stop) = (stop ≡ BadConfiguration) × ¬ (IsServer text)
+
+-- what clients are asked, or that the name is no server's, or the password none
+abbrev pub FindsAsks : Settings → Result Asks Stop → Type 0
+FindsAsks settings (Ok asks) = AreAsksOf settings asks
+FindsAsks settings (Err stop) = (stop ≡ BadConfiguration) × CannotBeAsked settings
+
+-- the password that a text is, where there is one, or that it is none
+abbrev pub FindsPassword : Option (List ℕ) → Result (Option (List ℕ)) Stop → Type 0
+FindsPassword text (Ok password) = password ≡ text
+FindsPassword (Some written) (Err stop) = (stop ≡ BadConfiguration) × ¬ (IsClientPassword written)
+FindsPassword None (Err stop) = ⊥
 
 -- a peer as one that is called, that it is not to be called, or that it cannot be
 abbrev pub FindsCallee : PeerSettings → Result (Option Callee) Stop → Type 0

@@ -1,6 +1,7 @@
 use Rattle.std.proofs.Common.{refl, subst, sym}
 use Rattle.irc_layer.specs.declared.layer.Layer.{Layer}
-use Rattle.irc_layer.specs.Layers.{IsAround}
+use Rattle.irc_doorman.specs.declared.doorman.Doorman.{Doorman}
+use Rattle.irc_doorman.specs.Doormen.{IsNewDoorman}
 use Rattle.ircd.proofs.Ready.{unopened_by}
 use Rattle.ircd.proofs.serve.open.Goals as goal
 
@@ -15,9 +16,11 @@ returns g c = (
   record {
     door = c.new-door.result;
     programs = c.new-door.ensures.programs;
-    is_around = subst (λ (layer : Layer).
-        IsAround c.args.setup.server c.args.setup.plain.items layer)
-        (sym c.new-door.ensures.machine) c.new-layer.ensures;
+    layer = c.new-layer.result;
+    asks = subst (λ (doorman : Doorman Layer).
+        IsNewDoorman c.new-layer.result c.args.setup.asks doorman)
+        (sym c.new-door.ensures.machine) c.new-doorman.ensures;
+    is_around = c.new-layer.ensures;
     sockets = c.in-Ok.wire;
     listens = c.in-Ok.ensures.listens;
     callees = c.in-Ok.ensures.callees;

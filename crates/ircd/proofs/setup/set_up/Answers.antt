@@ -72,6 +72,7 @@ returns c = record {
   register_within = refl;
   pace = c.pace.ensures;
   programs = c.programs.ensures;
+  asks = c.in_ok-asks.ensures;
   client_room = refl;
   link_room = refl;
 }

@@ -1,0 +1,5 @@
+pub mod Admitting
+pub mod Alike
+pub mod Asking
+pub mod Examples
+pub mod Told
