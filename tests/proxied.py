@@ -10,6 +10,7 @@
   many       of 257 of whom none has said anything the last one is closed at once; who is no proxy comes in meanwhile
   deny       who is denied is closed: its own address, and one that a proxy names, and nobody beside
   limit      connections_per_address counts the addresses that are named, each apart, and the proxy's own not at all
+  links      at listen_links no header is wanted, and none is read
   ban        a ban of the address that was named keeps its user out of a channel, and no other one
   tools      haproxy and stunnel, where they are installed, with the address that they were reached from
 
@@ -121,8 +122,8 @@ def free_port():
 
 
 @contextlib.contextmanager
-def daemon(program, more):
-    """Its port."""
+def daemon(program, more, heard=SAID):
+    """Its port. What it says on standard error is heard."""
     port = free_port()
     with tempfile.TemporaryDirectory() as folder:
         path = pathlib.Path(folder, "ircd.toml")
@@ -136,8 +137,7 @@ def daemon(program, more):
                 process.kill()
                 said = process.stderr.read()
                 if said:
-                    SAID.append(said)
-                    print("WRONG: the daemon said", said)
+                    heard.append(said)
 
 
 class Comer:
@@ -311,6 +311,16 @@ def limit(program):
                 f"one more, once one has gone: {again}")
 
 
+def links(program):
+    heard, door = [], free_port()
+    with daemon(program, proxied(f'listen_links = "127.0.0.1:{door}"\n'), heard):
+        for first in (b"", line()):
+            peer = Comer(door, first + b"PASS x 0210010001 TREE|\r\nSERVER no.peer 1 1 :x\r\n")
+            peer.until(b"\n\n", 2)
+    lines = b"".join(heard).decode().split("\n")[:-1]
+    return told("links", lines == ["ircd: link from no.peer at 127.0.0.1: refused: an unknown peer"], f"said: {lines}")
+
+
 def ban(program):
     with daemon(program, proxied()) as port:
         op, banned, other = Comer(port, line(source="192.0.2.1")), Comer(port, line()), Comer(port, binary("192.0.2.8"))
@@ -376,14 +386,17 @@ def tools(program):
     return told("tools", all(host == OTHER_ADDRESS for host in hosts.values()), f"who comes from {OTHER_ADDRESS} is {hosts}")
 
 
-ROWS = {"good": good, "bad": bad, "plain": plain, "slow": slow, "many": many, "deny": deny, "limit": limit, "ban": ban, "tools": tools}
+ROWS = {"good": good, "bad": bad, "plain": plain, "slow": slow, "many": many, "deny": deny, "limit": limit, "links": links, "ban": ban, "tools": tools}
 
 
 def main():
     if len(sys.argv) < 2 or not os.access(sys.argv[1], os.X_OK):
         sys.exit("usage: tests/proxied.py PROGRAM [ROW ..]")
     program = os.path.abspath(sys.argv[1])
-    return 0 if all([ROWS[row](program) for row in sys.argv[2:] or ROWS]) and not SAID else 1
+    all_hold = all([ROWS[row](program) for row in sys.argv[2:] or ROWS])
+    if SAID:
+        print("WRONG: of clients daemons said", SAID)
+    return 0 if all_hold and not SAID else 1
 
 
 if __name__ == "__main__":
