@@ -84,6 +84,8 @@ GOOD = [
     *[with_own("programs", programs) for programs in ("true", "false")], with_own("ping_after", "1"), with_own("ping_after", "3600"),
     *[with_own("motd", motd) for motd in ('"/dev/null"', f'"{REPOSITORY}/HANDLES"')], written(OWN | {"motd": '"/dev/null"', "client_room": "2048"}),
     with_own("password", '"x"'), with_own("password", '": open sesame"'), with_own("password", '"' + 32 * "\u00e9" + '"'),
+    *[with_own(key, ranges) for key in ("deny", "proxies")
+      for ranges in ("[]", '["127.0.0.1"]', '["10.1.2.3/16", "::/0"]', '["0.0.0.0/0",\n"2001:DB8::1/128", ]', '["::ffff:1.2.3.4/32"]', '["1.2.3.4/32"]')],
     written(OWN | {"lines_per_second": "2", "burst_lines": "1"}), written(OWN | {"burst_lines": "1000", "lines_per_second": "1"}),
     with_own("peer", '[{name = "b.net", password = "pw"}, {\n  name = "c.net", # the other\n  password = "\\x70w",\n}]'),
     with_peer(password='"!"'), with_peer(password='"' + 19 * "~" + ':"'), with_peer(connect='"127.0.0.1:1"', retry="1"),
@@ -112,6 +114,9 @@ BAD = [
     ("register_within", with_own("register_within", "0")), ("register_within", with_own("register_within", "3601")),
     ("lines_per_second", with_own("lines_per_second", "0")), ("lines_per_second", with_own("lines_per_second", "1001")),
     *[("burst_lines", written(OWN | {"lines_per_second": "2", "burst_lines": lines})) for lines in ("0", "1001", '"10"')],
+    *[(key, with_own(key, ranges)) for key in ("deny", "proxies")
+      for ranges in ('"127.0.0.1"', "[1]", '[["127.0.0.1"]]', '[""]', '["localhost"]', '["10.1/16"]', '["10.1.0.0/33"]', '["10.1.0.0/016"]', '["10.1.0.0/"]',
+                     '["10.1.0.0/+1"]', '["10.1.0.0/16/16"]', '["::1/129"]', '["[::1]"]', '["127.0.0.1:1"]', '["10.1.0.0 /16"]', '["127.0.0.1", "x"]', '["/8"]')],
     *[("programs", with_own("programs", programs)) for programs in ("1", '"true"', '"usual"', "[true]")],
     *[("motd", with_own("motd", motd)) for motd in ("true", '""', '"/no_such_file"', f'"{REPOSITORY}"', f'"{REPOSITORY}/README.md"', '"\\u0000"')],
     ("motd", written(OWN | {"motd": '"/dev/null"', "client_room": "2047"})),

@@ -35,6 +35,7 @@ use Rattle.irc_doorman.specs.Doormen.{IsNewDoorman}
 use Rattle.irc_doorman.specs.Passwords.{IsClientPassword}
 use Rattle.irc_layer.specs.declared.layer.Layer.{Layer}
 use Rattle.irc_layer.specs.Layers.{server_of, IsAround, IsLayered}
+use Rattle.irc_turns.specs.Ranges.{AreRanges, IsSomeNoRange}
 use Rattle.irc_turns.specs.Spreads.{name_spread}
 use Rattle.irc_turns.specs.declared.allowance.LinesPace.{LinesPace}
 use Rattle.irc_sockets.specs.declared.calls.Callee.{Callee}
@@ -134,11 +135,12 @@ pub data CannotBeAsked (settings : Settings) : Type 0 where
   no_password : {text : List ℕ} → option_map string_bytes settings.password ≡ Some text
       → ¬ (IsClientPassword text) → CannotBeAsked settings
 
--- The server is made of the settings, without clients, and of their name; where it listens, whom it
--- calls, without the word by which pieces are counted too, and again when, by its own name too, how
--- many connections an address may have, how many of these for links without a name and for how
--- long, to which pace of lines clients keep, what these are told beside the profile and asked, which
--- file holds the message of the day, and how much may wait is theirs.
+-- The server is made of the settings, without clients, and of their name; where it listens, from
+-- where no client comes in, from where proxies come, whom it calls, without the word by which
+-- pieces are counted too, and again when, by its own name too, how many connections an address may
+-- have, how many of these for links without a name and for how long, to which pace of lines clients
+-- keep, what these are told beside the profile and asked, which file holds the message of the day,
+-- and how much may wait is theirs.
 pub record IsSetUp (settings : Settings) (setup : Setup) : Type 0 where
   pub config : Config
   pub configures : Configures settings config
@@ -146,6 +148,8 @@ pub record IsSetUp (settings : Settings) (setup : Setup) : Type 0 where
   pub server_is : setup.server ≡ Some (made_view config)
   pub clients : IsSocketText (string_bytes settings.listen) setup.clients
   pub links : IsAddress (option_map string_bytes settings.listen_links) setup.links
+  pub deny : AreRanges (map string_bytes settings.deny.items) setup.deny.items
+  pub proxies : AreRanges (map string_bytes settings.proxies.items) setup.proxies.items
   pub called : AreCalled settings.peers.items setup.callees.items
   pub plain : setup.plain.items ≡ plain_names settings.peers.items
   pub spread : setup.spread ≡ name_spread (string_bytes settings.name)
@@ -160,12 +164,14 @@ pub record IsSetUp (settings : Settings) (setup : Setup) : Type 0 where
   pub client_room : setup.client_room ≡ settings.client_room
   pub link_room : setup.link_room ≡ settings.link_room
 
--- why nothing is set up by settings: an address that is none, a peer that cannot be called, or is
--- named as no server is, a server that is refused, or clients that cannot be asked
+-- why nothing is set up by settings: an address or a range that is none, a peer that cannot be
+-- called, or is named as no server is, a server that is refused, or clients that cannot be asked
 pub data IsRefused (settings : Settings) : Type 0 where
   clients : IsNoAddress (string_bytes settings.listen) → IsRefused settings
   links : {text : List ℕ} → option_map string_bytes settings.listen_links ≡ Some text
       → IsNoAddress text → IsRefused settings
+  deny : IsSomeNoRange (map string_bytes settings.deny.items) → IsRefused settings
+  proxies : IsSomeNoRange (map string_bytes settings.proxies.items) → IsRefused settings
   called : IsSomeUncalled settings.peers.items → IsRefused settings
   server : (config : Config) → Configures settings config → is_some (config_fault config) ≡ true
       → IsRefused settings
@@ -228,8 +234,8 @@ pub data IsUnserved (text : List ℕ) : Type 0 where
   bad_motd : (setup : Setup) → IsTextOf text setup → is_some (motd_file setup) ≡ true
       → IsUnserved text
 
--- where a server that was set up is to listen, what the connections of an address may be there, and
--- how much may wait for one
+-- where a server that was set up is to listen, who is let in there, what the connections of an
+-- address may be, and how much may wait for one
 abbrev pub listening_of : Setup → Listening
 listening_of setup =
     record {
@@ -242,6 +248,8 @@ listening_of setup =
       links_per_address = setup.links_per_address;
       register_within = setup.register_within;
       pace = setup.pace;
+      deny = setup.deny;
+      proxies = setup.proxies;
     }
 
 -- What serves: a door in front of a doorman in front of a layer around a server.

@@ -149,6 +149,8 @@ fn open<T: Net, E: Write>(
         links_per_address: setup.links_per_address,
         register_within: setup.register_within,
         pace: setup.pace,
+        deny: setup.deny,
+        proxies: setup.proxies,
     };
     let wire = match MioWire::listen(net, alloc, listening, setup.callees, setup.spread) {
         Ok(wire) => wire,

@@ -40,7 +40,7 @@ const READY: &[u8] = b"ready\n";
 /// The file that each configuration is written to.
 const FILE: &str = "serve_tests.toml";
 
-static ROWS: [ServeRow; 46] = [
+static ROWS: [ServeRow; 48] = [
     ServeRow {
         room: ROOM,
         more: "",
@@ -359,6 +359,23 @@ static ROWS: [ServeRow; 46] = [
     ServeRow {
         room: ROOM,
         more: "register_within = 0\n",
+        words: &["serve", FILE, "0"],
+        status: 3,
+        output: b"",
+        errors: BAD,
+    },
+    // ranges, and what is none
+    ServeRow {
+        room: ROOM,
+        more: "deny = [\"10.1.0.0/16\", \"2001:db8::/32\"]\nproxies = [\"127.0.0.1\"]\n",
+        words: &["serve", FILE, "0"],
+        status: 0,
+        output: READY,
+        errors: b"",
+    },
+    ServeRow {
+        room: ROOM,
+        more: "deny = [\"10.1.0.0/33\"]\n",
         words: &["serve", FILE, "0"],
         status: 3,
         output: b"",
