@@ -20,6 +20,8 @@ mod failing;
 #[cfg(test)]
 mod full;
 #[cfg(test)]
+mod holding;
+#[cfg(test)]
 mod hostile;
 #[cfg(test)]
 mod lent;

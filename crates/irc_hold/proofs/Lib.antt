@@ -1,0 +1,4 @@
+pub mod Examples
+pub mod Handling
+pub mod Holding
+pub mod Waiting
