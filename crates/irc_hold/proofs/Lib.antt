@@ -1,4 +1,3 @@
 pub mod Examples
 pub mod Handling
-pub mod Holding
-pub mod Waiting
+pub mod Standing
