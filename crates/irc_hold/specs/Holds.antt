@@ -12,7 +12,7 @@
 --   CAP LS                CAP LS                nothing, as 1 is a user
 use Rattle.std.specs.Prelude.{◌≡◌, ℕ, Bool, true, false, not, ◌&&◌, Option, Some, None, is_some}
 use Rattle.std.specs.Prelude.{Result, Ok, Err, List, if◌then◌else◌, nat_eq}
-use Rattle.std.specs.Option.{option_map_or}
+use Rattle.std.specs.Option.{is_none, option_map_or}
 use Rattle.std.specs.Ordering.{nat_cmp}
 use Rattle.std.specs.BTreeMap.{BTreeMap, get}
 use Rattle.arrayvec.specs.ArrayVec.{ArrayVec}
@@ -125,6 +125,13 @@ held_behind fate server (LinkUp link name) helds = helds
 held_behind fate server (LinkLine link line) helds = helds
 held_behind fate server (LinkDown link) helds = helds
 
+-- it stays as it is behind a line that the machine is given, whoever is a user then
+abbrev pub is_free : Fate → Option Held → Bool
+is_free Passes held = is_none held
+is_free Begins held = false
+is_free Keeps held = false
+is_free Ends held = false
+
 -- whether holding takes memory
 abbrev pub takes_memory : Fate → Bool
 takes_memory Passes = false
@@ -192,6 +199,13 @@ abbrev pub IsHeldBack : {M : Type 0} → (M → Option View) → Handles M → H
 IsHeldBack server_of handles old event =
     IsDone server_of handles (fate_by server_of old event)
     (given (fate_by server_of old event) (held_at old.helds (conn_of event)) event) old event
+
+-- of a client that is a user, and of one that is not there, each line is the machine's
+abbrev pub OthersPass : Type 0
+OthersPass =
+    (negotiations : Negotiations) (server : Option View) (helds : Helds) (conn : ℕ)
+    (line : ArrayVec ℕ) → is_waiting server conn ≡ false
+    → fate_at negotiations server helds (Line conn line) ≡ Passes
 
 -- where nothing waits each answer is the machine's
 abbrev pub OffIsTheMachine : {M : Type 0} → (M → Option View) → Handles M → Type 0

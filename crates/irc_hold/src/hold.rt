@@ -3,8 +3,8 @@ ghost use Rattle.std.specs.Prelude.{◌≡◌, IfErr, OnErr, OnOk, Some, true};
 ghost use Rattle.irc_engine.specs.Machines.{IsConnectedBy, IsRefusal};
 ghost use Rattle.irc_hold.specs.declared.line.Fate.TheVariants.{Ends, Keeps};
 ghost use Rattle.irc_hold.specs.Holds.{awaits, begun, conn_of, fate_at, held_at, held_behind};
-ghost use Rattle.irc_hold.specs.Holds.{held_line, in_place_of, is_waiting, kept_of};
-ghost use Rattle.irc_hold.specs.Holds.{takes_memory, with_held, IsGiven, IsKept};
+ghost use Rattle.irc_hold.specs.Holds.{held_line, in_place_of, is_free, is_waiting};
+ghost use Rattle.irc_hold.specs.Holds.{kept_of, takes_memory, with_held, IsGiven, IsKept};
 
 use crate::line::{Fate, line_fate};
 use irc_batch::Batch;
@@ -151,13 +151,25 @@ fn kept_of(helds: &Helds, conn: u64) -> Option<Line>
     }
 }
 
-/// What is held goes by what the machine was given, and by who is a user then.
+/// Whether a line changes nothing of what is held, whatever the server is behind it.
+fn is_free(helds: &Helds, fate: Fate, conn: u64) -> bool
+    ensures { result ≡ is_free fate (held_at helds.now conn) }
+{
+    match fate {
+        Fate::Passes => !helds.contains_key(&conn),
+        Fate::Begins | Fate::Keeps | Fate::Ends => false,
+    }
+}
+
+/// What is held goes by what the machine was given, and by who is a user then. Most lines are of
+/// clients of whom nothing is held: of these no server is asked.
 fn note(helds: &mut Helds, fate: Fate, server: &Server, event: &Event) -> Result<(), AllocError>
     ensures ok { OnOk result
         (held_at helds.new ≡ held_behind fate server.now event.now (held_at helds.old)) }
     ensures memory { OnErr result (takes_memory fate ≡ true) }
 {
     match event {
+        Event::Line(conn, _) if is_free(helds, fate, *conn) => Ok(()),
         Event::Line(conn, line) if is_waiting(server, *conn) => note_line(helds, fate, *conn, line),
         Event::Line(conn, _) => {
             helds.remove(conn);
