@@ -1,7 +1,7 @@
 -- Who is connected where a line is kept, or the machine is given a kept one in its place; and why
 -- that is refused.
 use Rattle.std.proofs.Common.{◌≡◌, ℕ, Option, None, Some, Result, Ok, Err, IfErr, OnOk, List, refl}
-use Rattle.std.proofs.Common.{sym, ap, subst}
+use Rattle.std.proofs.Common.{sym, subst}
 use Rattle.arrayvec.specs.ArrayVec.{ArrayVec}
 use Rattle.irc_batch.specs.Batches.{Sent}
 use Rattle.irc_stage.specs.View.{View}
@@ -14,8 +14,7 @@ use Rattle.irc_engine.specs.Machines.{IsRefusal}
 use Rattle.irc_engine.specs.Lemmas.Stills.{event_by_still, nobody_goes, still_by_event}
 use Rattle.irc_hold.specs.declared.hold.Hold.{Hold}
 use Rattle.irc_hold.specs.declared.hold.Negotiations.{Negotiations}
-use Rattle.irc_hold.specs.declared.line.Fate.{Fate}
-use Rattle.irc_hold.specs.declared.line.Fate.TheVariants.{Passes, Begins, Keeps, Ends}
+use Rattle.irc_hold.specs.declared.line.Fate.TheVariants.{Keeps, Ends}
 use Rattle.irc_hold.specs.Holds.{fate_at, fate_by, has_no_room, held_at, in_place_of}
 use Rattle.irc_hold.specs.Holds.{keeps, Helds, IsKept}
 

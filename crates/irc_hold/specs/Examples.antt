@@ -1,5 +1,5 @@
 -- What becomes of lines of client 1, computed: the examples of `Lines.antt` and `Holds.antt`.
-use Rattle.std.specs.Prelude.{◌≡◌, ℕ, Bool, true, false, Option, Some, None, is_some, List, codes}
+use Rattle.std.specs.Prelude.{◌≡◌, ℕ, true, false, Option, Some, None, is_some, List, codes}
 use Rattle.std.specs.Option.{option_map}
 use Rattle.irc_server.specs.declared.event.Event.TheVariants.{Line}
 use Rattle.irc_hold.specs.declared.hold.Held.{Held}

@@ -5,7 +5,7 @@
 --   USER u 0 * :Al     it is kept
 --   CAP END            the machine is given `USER u 0 * :Al` in its place
 -- A line with a prefix, and a USER with fewer than four parameters, is the machine's at once.
-use Rattle.std.specs.Prelude.{ℕ, Bool, false, ◌&&◌, ◌||◌, is_some, Result, Ok, Err, List, [], codes}
+use Rattle.std.specs.Prelude.{ℕ, Bool, ◌&&◌, ◌||◌, is_some, Result, Ok, Err, List, [], codes}
 use Rattle.std.specs.Prelude.{get_or, if◌then◌else◌, length, nat_le}
 use Rattle.irc_line.specs.declared.reading.LineFault.{LineFault}
 use Rattle.irc_line.specs.Messages.{Parsed}
