@@ -26,6 +26,8 @@ enum Step {
     ComesClosed,
     /// It is refused, as it is there.
     IsThere,
+    /// Client 2, which comes where it is not there, says a line, and is told what is not looked at.
+    AnotherSays(&'static str),
 }
 
 const WELCOME: &str = "\
@@ -54,7 +56,7 @@ const TWICE: &str = ":a.net 462 al :Unauthorized command (already registered)\r\
 
 const LEFT: &str = "ERROR :Closing link (bye)\r\nclosed";
 
-static ROWS: [HoldingRow; 13] = [
+static ROWS: [HoldingRow; 15] = [
     // USER waits for CAP END
     HoldingRow {
         negotiations: Negotiations::Awaited,
@@ -193,6 +195,28 @@ static ROWS: [HoldingRow; 13] = [
             Step::Says("CAP END", WELCOME),
         ],
     },
+    // one waits, and another does not
+    HoldingRow {
+        negotiations: Negotiations::Awaited,
+        steps: &[
+            Step::AnotherSays("CAP LS"),
+            Step::Says("NICK al", ""),
+            Step::Says("USER u 0 * :Al", WELCOME),
+        ],
+    },
+    // each has its own line, and its own end
+    HoldingRow {
+        negotiations: Negotiations::Awaited,
+        steps: &[
+            Step::AnotherSays("CAP LS"),
+            Step::Says("CAP LS", NOT_YET),
+            Step::Says("NICK al", ""),
+            Step::Says("USER u 0 * :Al", ""),
+            Step::AnotherSays("USER v 0 * :Bo"),
+            Step::AnotherSays("CAP END"),
+            Step::Says("CAP END", WELCOME),
+        ],
+    },
 ];
 
 /// Whether just this is put out for client 1.
@@ -218,16 +242,26 @@ fn behind<'a>(sent: Option<Out<'_>>, text: &'a [u8]) -> Option<&'a [u8]> {
 
 type Handled = Result<(), ServerFault>;
 
-fn connect(hold: &mut Hold<Server>, out: &mut Batch) -> Handled {
+fn connect(hold: &mut Hold<Server>, conn: u64, out: &mut Batch) -> Handled {
     match Host::read(b"h") {
-        Some(host) => hold.handle(&Event::Connect(1, host), out),
+        Some(host) => hold.handle(&Event::Connect(conn, host), out),
         None => Err(ServerFault::Failed),
     }
 }
 
+/// Client 2 says a line.
+fn another_says(hold: &mut Hold<Server>, line: &[u8], out: &mut Batch) -> Handled {
+    if !hold.server().has_client(2) {
+        connect(hold, 2, out)?;
+    }
+    hold.handle(&Event::Line(2, copied(line)), out)?;
+    out.clear();
+    Ok(())
+}
+
 /// That client 1 does not come twice.
 fn is_there(hold: &mut Hold<Server>, out: &mut Batch) -> Handled {
-    match connect(hold, out) {
+    match connect(hold, 1, out) {
         Err(ServerFault::ConnectionThere) => Ok(()),
         _ => Err(ServerFault::Failed),
     }
@@ -239,24 +273,26 @@ fn does(hold: &mut Hold<Server>, step: &Step, out: &mut Batch) -> Handled {
         Step::Waits => hold.due(Moment::of(1000), out),
         Step::ComesAgain => {
             hold.handle(&Event::Gone(1), out)?;
-            connect(hold, out)
+            connect(hold, 1, out)
         }
-        Step::ComesClosed => connect(hold, out),
+        Step::ComesClosed => connect(hold, 1, out),
         Step::IsThere => is_there(hold, out),
+        Step::AnotherSays(line) => another_says(hold, line.as_bytes(), out),
     }
 }
 
 fn told(step: &Step) -> &'static str {
     match step {
         Step::Says(_, told) => told,
-        Step::Waits | Step::ComesAgain | Step::ComesClosed | Step::IsThere => "",
+        Step::Waits | Step::ComesAgain | Step::ComesClosed => "",
+        Step::IsThere | Step::AnotherSays(_) => "",
     }
 }
 
 /// Whether all goes as a row says.
 fn goes_so(alloc: Global, hold: &mut Hold<Server>, row: &HoldingRow) -> bool {
     let mut out = Batch::new(alloc);
-    if connect(hold, &mut out).is_err() {
+    if connect(hold, 1, &mut out).is_err() {
         return false;
     }
     for step in row.steps {
