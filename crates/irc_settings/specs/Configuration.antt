@@ -41,6 +41,13 @@ tables_in value = option_map_or (λ items. filter_map as_table (values_in items)
 abbrev pub tables_at : List ℕ → Members → List Members
 tables_at key table = option_map_or tables_in (get_member key table) []
 
+-- likewise the texts
+abbrev pub texts_in : Data → List (List ℕ)
+texts_in value = option_map_or (λ items. filter_map as_str (values_in items)) (as_array value) []
+
+abbrev pub texts_at : List ℕ → Members → List (List ℕ)
+texts_at key table = option_map_or texts_in (get_member key table) []
+
 -- what a table tells of a peer
 pub record PeerTold : Type 0 where
   pub name : Option (List ℕ)
@@ -107,6 +114,8 @@ pub record Tells (document : Members) (settings : Settings) : Type 0 where
   pub motd : text_at (codes "motd") document ≡ option_map string_bytes settings.motd
   pub password : text_at (codes "password") document ≡ option_map string_bytes settings.password
   pub ping_after : integer_at (codes "ping_after") document ≡ option_map pos settings.ping_after
+  pub deny : texts_at (codes "deny") document ≡ map string_bytes settings.deny.items
+  pub proxies : texts_at (codes "proxies") document ≡ map string_bytes settings.proxies.items
   pub peers : map peer_at (tables_at (codes "peer") document) ≡ map peer_told settings.peers.items
 
 -- whether a text is a configuration: a TOML document with the keys that it has to have, and no

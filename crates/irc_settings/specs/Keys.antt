@@ -13,6 +13,8 @@ pub data Kind : Type 0 where
   -- an integer from the first of these numbers to the second
   integer : ℕ → ℕ → Kind
   flag : Kind
+  -- an array of texts
+  texts : Kind
   -- an array of tables that all pass this test
   tables : (Members → Bool) → Kind
 
@@ -48,12 +50,20 @@ is_table test value = option_map_or test (as_table value) false
 abbrev pub are_tables : (Members → Bool) → Items → Bool
 are_tables test items = list_all (is_table test) (values_in items)
 
+-- whether an array has texts alone
+abbrev pub is_text : Data → Bool
+is_text value = is_some (as_str value)
+
+abbrev pub are_texts : Items → Bool
+are_texts items = list_all is_text (values_in items)
+
 -- whether a value may stand at a key of this kind
 abbrev pub is_of_kind : Kind → Data → Bool
 is_of_kind text value = is_some (as_str value)
 is_of_kind (integer least most) value =
     option_map_or (is_number_between least most) (as_integer value) false
 is_of_kind flag value = is_some (as_bool value)
+is_of_kind texts value = option_map_or are_texts (as_array value) false
 is_of_kind (tables test) value = option_map_or (are_tables test) (as_array value) false
 
 -- whether what a table has at a key may stand there: where it has nothing, whether the key may be
@@ -107,7 +117,8 @@ server_keys =
     ∷ optional (codes "lines_per_second") (integer 1 1000)
     ∷ optional (codes "burst_lines") (integer 1 1000) ∷ optional (codes "programs") flag
     ∷ optional (codes "motd") text ∷ optional (codes "password") text
-    ∷ optional (codes "ping_after") (integer 1 3600)
+    ∷ optional (codes "ping_after") (integer 1 3600) ∷ optional (codes "deny") texts
+    ∷ optional (codes "proxies") texts
     ∷ optional (codes "peer") (tables is_peer) ∷ []
 
 -- whether a number of lines at once goes with one of lines in a second

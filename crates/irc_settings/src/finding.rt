@@ -68,7 +68,7 @@ pub(crate) fn optional_text(
 }
 
 /// A copy of a value that is a text.
-fn copied(alloc: Global, value: &Value) -> Result<String, SettingsFault>
+pub(crate) fn copied(alloc: Global, value: &Value) -> Result<String, SettingsFault>
     ensures { ReadsAsText (view value.now) result }
 {
     match value.as_str() {

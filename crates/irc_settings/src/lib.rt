@@ -6,6 +6,7 @@ mod finding;
 mod pace;
 mod peers;
 mod settings;
+mod texts;
 
 pub use fault::SettingsFault;
 pub use settings::{LinesPace, PeerSettings, Settings, read_settings};

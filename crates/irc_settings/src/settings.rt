@@ -6,6 +6,7 @@ ghost use Rattle.irc_settings.specs.Loops.Finding.{IsParsedAs, ReadsKeys, ReadsS
 use crate::finding::{flag, has_only, limit, optional_number, optional_text, room, text};
 use crate::pace::{bursts_are_paced, pace};
 use crate::peers::peers;
+use crate::texts::texts;
 use crate::{
     LINKS_PER_ADDRESS, MOST_CLIENT_ROOM, MOST_CONNECTIONS, MOST_LINK_ROOM, MOST_NAME_WITHIN,
     MOST_PING_AFTER, MOST_REGISTER_WITHIN, NAME_WITHIN, SettingsFault,
@@ -14,7 +15,7 @@ use std::alloc::Global;
 use toml::Table;
 
 /// The keys of the document.
-const SERVER_KEYS: [&str; 18] = [
+const SERVER_KEYS: [&str; 20] = [
     "name",
     "info",
     "created",
@@ -32,6 +33,8 @@ const SERVER_KEYS: [&str; 18] = [
     "motd",
     "password",
     "ping_after",
+    "deny",
+    "proxies",
     "peer",
 ];
 
@@ -75,6 +78,10 @@ pub struct Settings {
     /// After how many seconds a client that says nothing is asked whether it is there, if it is: 1
     /// to [`MOST_PING_AFTER`].
     pub ping_after: Option<u16>,
+    /// The addresses and ranges from which no client comes in.
+    pub deny: Vec<String, Global>,
+    /// The addresses and ranges from which proxies come, which say for whom they do.
+    pub proxies: Vec<String, Global>,
     /// The servers that may be linked to: the tables `peer`, in order.
     pub peers: Vec<PeerSettings, Global>,
 }
@@ -177,6 +184,8 @@ fn settings_in(alloc: Global, document: &Table) -> Result<Settings, SettingsFaul
         motd: optional_text(alloc, document, "motd")?,
         password: optional_text(alloc, document, "password")?,
         ping_after: optional_number(document, "ping_after", MOST_PING_AFTER)?,
+        deny: texts(alloc, document, "deny")?,
+        proxies: texts(alloc, document, "proxies")?,
         peers: peers(alloc, document)?,
     })
 }

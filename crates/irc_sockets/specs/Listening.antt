@@ -24,6 +24,8 @@ pub record ListensAt (listening : Listening) (wire : MioWire) : Type 0 where
   pub marks_are :
       wire.sockets.talkers.marks ≡ marks_of listening.client_room listening.link_room
   pub pace_is : wire.sockets.talkers.pace ≡ listening.pace
+  pub deny_is : wire.entrance.deny ≡ listening.deny
+  pub proxies_are : wire.entrance.proxies ≡ listening.proxies
 
 -- it cannot listen at this address
 abbrev pub IsFaultAt : SocketAddr → ListenFault → Type 0

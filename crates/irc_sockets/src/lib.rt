@@ -9,6 +9,7 @@ mod keep_alive;
 mod listen_fault;
 mod listening;
 mod mio_wire;
+mod proxied;
 mod sockets;
 mod tokens;
 

@@ -1,5 +1,6 @@
 //! Where a wire of sockets is to listen.
-use irc_turns::LinesPace;
+use irc_turns::{AddressRange, LinesPace};
+use std::alloc::Global;
 use std::net::SocketAddr;
 
 /// Where a wire of sockets is to listen, and how many it takes there.
@@ -25,4 +26,8 @@ pub struct Listening {
     pub register_within: Option<u16>,
     /// The pace of lines to which each client keeps, if there is one. What it sends beyond waits.
     pub pace: Option<LinesPace>,
+    /// From where no client comes in.
+    pub deny: Vec<AddressRange, Global>,
+    /// From where proxies come, which say first for whom.
+    pub proxies: Vec<AddressRange, Global>,
 }

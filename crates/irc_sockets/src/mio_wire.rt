@@ -11,12 +11,13 @@ use crate::host::host_of;
 use crate::keep_alive::{ask_after, narrow};
 use crate::listen_fault::ListenFault;
 use crate::listening::Listening;
+use crate::proxied::Proxied;
 use crate::sockets::Sockets;
-use crate::tokens::{CALLS, CLIENTS, FIRST_SOCKET, LINKS};
+use crate::tokens::{CALLS, CLIENTS, FIRST_PROXIED, FIRST_SOCKET, LINKS};
 use irc_moments::Moment;
 use irc_names::{Host, ServerName};
 use irc_outbox::{Got, IoFault, Notice, Ready, Wire};
-use irc_turns::{Crowd, Marks, Newcomers, Round, Signals, Strangers, wait_for};
+use irc_turns::{Crowd, Entrance, Entry, Marks, Newcomers, Round, Signals, Strangers, wait_for};
 use mio::net::TcpStream;
 use mio::{Events, Interest, Poll, Token};
 use std::alloc::Global;
@@ -30,7 +31,7 @@ const EVENTS: usize = 1024;
 
 /// TCP sockets: one that listens for clients, one that may listen for links, and one for each
 /// connection; and one for each call of a server that is under way, which becomes a connection, and
-/// gets its number, once it is through.
+/// gets its number, once it is through, as one of a proxy does once it has said for whom it comes.
 ///
 /// What is ready is served in rounds. In each a few new connections are taken, and then each socket
 /// that is ready is reported once; only then is the system asked again. So one who sends without
@@ -43,6 +44,9 @@ pub struct MioWire {
     clients: Door,
     links: Option<Door>,
     calls: Calls,
+    /// Who comes in as a client, and as whom.
+    entrance: Entrance,
+    proxied: Proxied,
     sockets: Sockets,
     /// How many clients are connected from which addresses.
     crowd: Crowd,
@@ -91,6 +95,11 @@ impl MioWire {
             clients,
             links,
             calls,
+            entrance: Entrance {
+                deny: listening.deny,
+                proxies: listening.proxies,
+            },
+            proxied: Proxied::new(alloc),
             sockets: Sockets::new(
                 alloc,
                 Marks::of(listening.client_room, listening.link_room),
@@ -138,6 +147,7 @@ impl MioWire {
         self.calls.retries.look();
         let has_come = self.take_events(now);
         self.end_times(now);
+        self.proxied.end_times(now);
         self.sockets.talkers.let_go(now);
         if self.signals.are_due(now) {
             self.sockets.give_signs();
@@ -152,7 +162,8 @@ impl MioWire {
         let talkers = &self.sockets.talkers;
         let has_more = self.round.has_more || self.newcomers.asks();
         let is_busy = talkers.waiting() > 0 || self.has_arrivals() || has_more;
-        let is_awaited = !talkers.holds_nobody() || self.calls.retries.are_waiting();
+        let has_guests = self.proxied.are_awaited();
+        let is_awaited = !talkers.holds_nobody() || self.calls.retries.are_waiting() || has_guests;
         wait_for(is_busy, is_awaited)
     }
 
@@ -175,6 +186,9 @@ impl MioWire {
                 Token(CLIENTS) => knock(&mut self.clients),
                 Token(LINKS) => self.links.as_mut().is_some_and(knock),
                 Token(CALLS) => self.calls.knock(),
+                Token(number) if number < FIRST_SOCKET => {
+                    self.proxied.knock(number.saturating_sub(FIRST_PROXIED))
+                }
                 Token(number) => self
                     .sockets
                     .note(number.saturating_sub(FIRST_SOCKET), event, now),
@@ -187,6 +201,7 @@ impl MioWire {
     /// A round of arrivals begins at the doors.
     fn begin_arrivals(&mut self) {
         self.clients.arrivals.begin_round();
+        self.proxied.arrivals.begin_round();
         if let Some(links) = &mut self.links {
             links.arrivals.begin_round();
         }
@@ -194,7 +209,12 @@ impl MioWire {
 
     /// Whether connections may wait that are to be taken in this round.
     fn has_arrivals(&self) -> bool {
-        self.calls.may_have() || self.clients.arrivals.may_be_taken() || self.has_links()
+        self.calls.may_have() || self.has_clients() || self.has_links()
+    }
+
+    /// Whether clients may wait, or headers of proxies.
+    fn has_clients(&self) -> bool {
+        self.clients.arrivals.may_be_taken() || self.proxied.arrivals.may_be_taken()
     }
 
     /// Whether servers may wait at the door for links.
@@ -240,6 +260,8 @@ impl MioWire {
             self.called()
         } else if self.has_links() {
             self.link()
+        } else if self.proxied.arrivals.may_be_taken() {
+            self.named_client()
         } else if self.clients.arrivals.may_be_taken() {
             self.client()
         } else {
@@ -247,12 +269,36 @@ impl MioWire {
         }
     }
 
-    /// The report of a new client. Where there is no memory, or no number, for it, or too many are
-    /// connected from its address, it is closed unreported.
+    /// The report of a new client. Where there is no memory, or no number, for it, nobody comes in
+    /// from its address, or too many are connected from there, it is closed unreported. That of a
+    /// proxy is to say first for whom it comes.
     fn client(&mut self) -> Option<Ready> {
-        let (stream, address) = self.clients.accept(self.round.began)?;
-        let host = host_of(address.ip())?;
-        let number = self.admit_client(stream, address.ip())?;
+        let now = self.round.began;
+        let (stream, address) = self.clients.accept(now)?;
+        match self.entrance.entry(address.ip()) {
+            Entry::In => self.enter(stream, address.ip()),
+            Entry::Proxied => {
+                let registry = self.poll.registry();
+                self.proxied.add(stream, registry, now);
+                None
+            }
+            Entry::Closed => None,
+        }
+    }
+
+    /// The report of a client for whom a proxy has come, likewise.
+    fn named_client(&mut self) -> Option<Ready> {
+        let (stream, address) = self.proxied.next(self.poll.registry())?;
+        if self.entrance.is_denied(address) {
+            return None;
+        }
+        self.enter(stream, address)
+    }
+
+    /// The report of a client that is let in as one from an address.
+    fn enter(&mut self, stream: TcpStream, address: IpAddr) -> Option<Ready> {
+        let host = host_of(address)?;
+        let number = self.admit_client(stream, address)?;
         Some(Ready::Client(number, host))
     }
 

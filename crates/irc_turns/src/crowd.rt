@@ -91,7 +91,7 @@ impl Crowd {
 
 /// The number of an address. One of IPv4 has that of its mapped address of IPv6 (RFC 4291 section
 /// 2.5.5.2), and so counts as this.
-fn number_of(address: IpAddr) -> u128
+pub(crate) fn number_of(address: IpAddr) -> u128
     ensures { result ≡ address_number address }
 {
     match address {

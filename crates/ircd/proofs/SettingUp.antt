@@ -1,6 +1,6 @@
 -- What settings set up, or why they set up nothing.
 use Rattle.std.proofs.Common.{◌≡◌, ◌∙◌, ℕ, Option, Some, None, Result, Ok, Err, IsErrAnd, List, []}
-use Rattle.std.proofs.Common.{◌∷◌, ◌++◌, append_assoc, append-nil, length, is_some, option_map}
+use Rattle.std.proofs.Common.{◌∷◌, ◌++◌, append_assoc, append-nil, length, is_some, map, option_map}
 use Rattle.std.proofs.Common.{option_to_list, string_bytes, String, Vec, Bor, refl, ap, sym, subst}
 use Rattle.std.specs.declared.alloc.Global.{Global}
 use Rattle.std.specs.Option.{option_copied}
@@ -13,16 +13,18 @@ use Rattle.irc_server.specs.Configuring.{IsMade}
 use Rattle.irc_settings.specs.declared.settings.Settings.{Settings}
 use Rattle.irc_settings.specs.declared.settings.PeerSettings.{PeerSettings}
 use Rattle.irc_settings.specs.Configuration.{AreSettingsOf}
+use Rattle.irc_turns.specs.Ranges.{IsSomeNoRange}
 use Rattle.irc_sockets.specs.declared.calls.Callee.{Callee}
 use Rattle.irc_endings.specs.declared.fault.Stop.{Stop}
 use Rattle.irc_endings.specs.declared.fault.Stop.TheVariants.{Usage, BadScript, BadConfiguration}
 use Rattle.irc_endings.specs.declared.fault.Stop.TheVariants.{Failed}
 use Rattle.ircd.specs.declared.setup.Setup.{Setup}
 use Rattle.ircd.specs.Loops.SettingUp.{FindsCallee, FindsCallees, FindsName, FindsOptional}
+use Rattle.ircd.specs.Loops.SettingUp.{FindsRanges}
 use Rattle.ircd.specs.Serving.{AreCalled, Configures, IsAddress, IsNoAddress, IsReadSetup}
 use Rattle.ircd.specs.Serving.{IsRefused, IsSomeUncalled, SetsUp}
 use Rattle.ircd.specs.Serving.{nobody, uncalled, called, no_address, no_name, this, later, links}
-use Rattle.ircd.specs.Serving.{server, refused}
+use Rattle.ircd.specs.Serving.{deny, proxies, server, refused}
 use Rattle.ircd.specs.Serving.IsRefused.{called as uncallable}
 use Rattle.irc_endings.specs.Statuses.{stop_of_config}
 
@@ -38,13 +40,17 @@ lent_text : {Z : Type 0} (lent : Option (Bor (String Z)))
 lent_text None = refl
 lent_text (Some text) = refl
 
+pub lent_is : {Z : Type 0} (lent : Option (Bor (String Z))) (setting : Option (String Z))
+    → option_copied lent ≡ setting
+    → option_map (λ text. string_bytes text.now) lent ≡ option_map string_bytes setting
+lent_is lent setting is = lent_text lent ∙ ap (λ some. option_map string_bytes some) is
+
 pub found_in : {Z : Type 0} (lent : Option (Bor (String Z))) (setting : Option (String Z))
     (found : Result (Option SocketAddr) Stop) → option_copied lent ≡ setting
     → FindsOptional (option_map (λ text. string_bytes text.now) lent) found
     → FindsOptional (option_map string_bytes setting) found
 found_in lent setting found is finds =
-    subst (λ text. FindsOptional text found)
-    (lent_text lent ∙ ap (λ some. option_map string_bytes some) is) finds
+    subst (λ text. FindsOptional text found) (lent_is lent setting is) finds
 
 -- there is a text, and it is no address
 pub record NotFound (text : Option (List ℕ)) (stop : Stop) : Type 0 where
@@ -160,6 +166,30 @@ links_refused settings r stop found failed =
     let none : NotFound (option_map string_bytes settings.listen_links) stop =
     not_found (option_map string_bytes settings.listen_links) stop found in
     refused_by settings r stop failed none.stop_is (links none.written_is none.is_none)
+
+-- of both lists of ranges alike
+ranges_refused : (settings : Settings) (texts : List (List ℕ)) (r : Result Setup Stop) (stop : Stop)
+    → (IsSomeNoRange texts → IsRefused settings) → FindsRanges texts (Err stop)
+    → IsErrAnd r (λ e. e ≡ stop) → SetsUp settings r
+ranges_refused settings texts r BadConfiguration why found failed =
+    refused_by settings r BadConfiguration failed refl (why found)
+ranges_refused settings texts r Failed why found failed = memory_out settings r failed
+ranges_refused settings texts r Usage why found failed = absurd found
+ranges_refused settings texts r (BadScript line) why found failed = absurd found
+
+pub deny_refused : (settings : Settings) (r : Result Setup Stop) (stop : Stop)
+    → FindsRanges (map string_bytes settings.deny.items) (Err stop) → IsErrAnd r (λ e. e ≡ stop)
+    → SetsUp settings r
+deny_refused settings r stop found failed =
+    ranges_refused settings (map string_bytes settings.deny.items) r stop (λ some. deny some) found
+    failed
+
+pub proxies_refused : (settings : Settings) (r : Result Setup Stop) (stop : Stop)
+    → FindsRanges (map string_bytes settings.proxies.items) (Err stop) → IsErrAnd r (λ e. e ≡ stop)
+    → SetsUp settings r
+proxies_refused settings r stop found failed =
+    ranges_refused settings (map string_bytes settings.proxies.items) r stop
+    (λ some. proxies some) found failed
 
 pub server_refused : (settings : Settings) (config : Config) (r : Result Setup Stop)
     (fault : ConfigFault) → Configures settings config → IsMade config (Err fault)

@@ -40,7 +40,7 @@ const READY: &[u8] = b"ready\n";
 /// The file that each configuration is written to.
 const FILE: &str = "serve_tests.toml";
 
-static ROWS: [ServeRow; 41] = [
+static ROWS: [ServeRow; 48] = [
     ServeRow {
         room: ROOM,
         more: "",
@@ -364,6 +364,23 @@ static ROWS: [ServeRow; 41] = [
         output: b"",
         errors: BAD,
     },
+    // ranges, and what is none
+    ServeRow {
+        room: ROOM,
+        more: "deny = [\"10.1.0.0/16\", \"2001:db8::/32\"]\nproxies = [\"127.0.0.1\"]\n",
+        words: &["serve", FILE, "0"],
+        status: 0,
+        output: READY,
+        errors: b"",
+    },
+    ServeRow {
+        room: ROOM,
+        more: "deny = [\"10.1.0.0/33\"]\n",
+        words: &["serve", FILE, "0"],
+        status: 3,
+        output: b"",
+        errors: BAD,
+    },
     // lines that are counted, and a number of them at once alone
     ServeRow {
         room: ROOM,
@@ -376,6 +393,48 @@ static ROWS: [ServeRow; 41] = [
     ServeRow {
         room: ROOM,
         more: "burst_lines = 10\n",
+        words: &["serve", FILE, "0"],
+        status: 3,
+        output: b"",
+        errors: BAD,
+    },
+    // a message of the day, as whose text the configuration itself may stand
+    ServeRow {
+        room: ROOM,
+        more: "motd = \"serve_tests.toml\"\n",
+        words: &["serve", FILE, "3"],
+        status: 0,
+        output: READY,
+        errors: b"",
+    },
+    // one that is not there, a folder, one without room, and one that is no text
+    ServeRow {
+        room: ROOM,
+        more: "motd = \"no_such_file.txt\"\n",
+        words: &["serve", FILE, "0"],
+        status: 3,
+        output: b"",
+        errors: BAD,
+    },
+    ServeRow {
+        room: ROOM,
+        more: "motd = \"/\"\n",
+        words: &["serve", FILE, "0"],
+        status: 3,
+        output: b"",
+        errors: BAD,
+    },
+    ServeRow {
+        room: "client_room = 2048\n",
+        more: "motd = \"serve_tests.toml\"\n",
+        words: &["serve", FILE, "0"],
+        status: 3,
+        output: b"",
+        errors: BAD,
+    },
+    ServeRow {
+        room: ROOM,
+        more: "motd = true\n",
         words: &["serve", FILE, "0"],
         status: 3,
         output: b"",

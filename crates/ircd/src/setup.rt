@@ -7,6 +7,7 @@ ghost use Rattle.ircd.specs.Serving.{Configures, IsReadSetup, SetsUp, pace_set, 
 ghost use Rattle.ircd.specs.Serving.{plain_name, plain_names, programs_set};
 ghost use Rattle.ircd.specs.Loops.SettingUp.{FindsAddress, FindsAsks, FindsCallee, FindsCallees};
 ghost use Rattle.ircd.specs.Loops.SettingUp.{FindsName, FindsOptional, FindsPassword};
+ghost use Rattle.ircd.specs.Loops.SettingUp.{FindsRanges};
 
 use irc_door::Programs;
 use irc_doorman::{Asks, ClientPassword};
@@ -16,7 +17,7 @@ use irc_routes::Own;
 use irc_server::{Config, Peer, Server};
 use irc_settings::{PeerSettings, Settings, read_settings};
 use irc_sockets::Callee;
-use irc_turns::{LinesPace, name_spread};
+use irc_turns::{AddressRange, LinesPace, name_spread, read_ranges};
 use std::alloc::{AllocError, Global};
 use std::net::SocketAddr;
 
@@ -29,6 +30,10 @@ pub struct Setup {
     pub clients: SocketAddr,
     /// Where it listens for servers, if it does.
     pub links: Option<SocketAddr>,
+    /// From where no client comes in.
+    pub deny: Vec<AddressRange, Global>,
+    /// From where proxies come, who say first for whom.
+    pub proxies: Vec<AddressRange, Global>,
     /// The servers that it calls, in the order of its peers.
     pub callees: Vec<Callee, Global>,
     /// Those of its peers that know no pieces, and are called without the word for them.
@@ -50,6 +55,8 @@ pub struct Setup {
     pub pace: Option<LinesPace>,
     /// What clients are told beside the profile.
     pub programs: Programs,
+    /// The file whose text they are told as the message of the day, if there is one.
+    pub motd: Option<String>,
     /// What clients are asked.
     pub asks: Asks,
     /// How many bytes may wait for a client.
@@ -61,8 +68,8 @@ pub struct Setup {
 /// What a text sets up.
 ///
 /// # Errors
-/// [`Stop::BadConfiguration`] where the text is no configuration, an address in it is none, or no
-/// server is made of it; [`Stop::Failed`] where memory runs out.
+/// [`Stop::BadConfiguration`] where the text is no configuration, an address or a range in it is
+/// none, or no server is made of it; [`Stop::Failed`] where memory runs out.
 pub fn read_setup(alloc: Global, text: &str) -> Result<Setup, Stop>
     ensures { IsReadSetup text.now result }
 {
@@ -78,6 +85,8 @@ fn set_up(alloc: Global, settings: &Settings) -> Result<Setup, Stop>
         callees: callees(alloc, &settings.peers)?,
         clients: address(settings.listen.as_str())?,
         links: optional_address(settings.listen_links.as_ref())?,
+        deny: ranges(alloc, &settings.deny)?,
+        proxies: ranges(alloc, &settings.proxies)?,
         server: Server::new(alloc, config(alloc, settings)?)?,
         asks: asks(settings)?,
         plain: plain_names(alloc, &settings.peers)?,
@@ -88,9 +97,21 @@ fn set_up(alloc: Global, settings: &Settings) -> Result<Setup, Stop>
         register_within: settings.register_within,
         pace: pace(settings),
         programs: programs(settings.programs),
+        motd: optional_text(alloc, settings.motd.as_ref())?,
         client_room: settings.client_room,
         link_room: settings.link_room,
     })
+}
+
+/// The same text, if there is one.
+fn optional_text(alloc: Global, text: Option<&String>) -> Result<Option<String>, AllocError>
+    ensures { IfOk result (λ own. option_map string_bytes own
+        ≡ option_map (λ text. string_bytes text.now) text.entry) }
+{
+    match text {
+        Some(text) => Ok(Some(String::from_str(alloc, text.as_str())?)),
+        None => Ok(None),
+    }
 }
 
 /// What clients are told beside the profile.
@@ -272,6 +293,17 @@ fn server_name(text: &str) -> Result<ServerName, Stop>
     match ServerName::read(text.as_bytes()) {
         Some(name) => Ok(name),
         None => Err(Stop::BadConfiguration),
+    }
+}
+
+/// The ranges that texts are.
+fn ranges(alloc: Global, texts: &[String]) -> Result<Vec<AddressRange, Global>, Stop>
+    ensures { FindsRanges (map string_bytes texts.now) result }
+{
+    match read_ranges(alloc, texts) {
+        Ok(Some(ranges)) => Ok(ranges),
+        Ok(None) => Err(Stop::BadConfiguration),
+        Err(_) => Err(Stop::Failed),
     }
 }
 

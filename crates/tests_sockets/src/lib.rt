@@ -20,6 +20,8 @@ mod failing;
 #[cfg(test)]
 mod full;
 #[cfg(test)]
+mod headers;
+#[cfg(test)]
 mod holding;
 #[cfg(test)]
 mod hostile;

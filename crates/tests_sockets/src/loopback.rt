@@ -24,6 +24,7 @@ fn opens(rt: &HostRuntime, listening: Listening, callees: Vec<Callee, Global>) -
 
 /// Where a wire listens, and how many it lets in from one address. Nobody here meets another limit.
 fn listening(
+    alloc: Global,
     clients: SocketAddr,
     links: Option<SocketAddr>,
     connections_per_address: Option<u16>,
@@ -38,6 +39,8 @@ fn listening(
         links_per_address: None,
         register_within: None,
         pace: None,
+        deny: Vec::new(alloc),
+        proxies: Vec::new(alloc),
     }
 }
 
@@ -48,14 +51,15 @@ pub(crate) fn listens(
     connections_per_address: Option<u16>,
 ) -> Option<MioWire> {
     let clients = address.parse::<SocketAddr>().ok()?;
-    let listening = listening(clients, None, connections_per_address);
+    let listening = listening(rt.alloc(), clients, None, connections_per_address);
     opens(rt, listening, Vec::new(rt.alloc()))
 }
 
 /// A wire that listens for links, too.
 fn is_called(rt: &HostRuntime) -> Option<MioWire> {
     let free = LOOPBACK.parse::<SocketAddr>().ok()?;
-    opens(rt, listening(free, Some(free), None), Vec::new(rt.alloc()))
+    let listening = listening(rt.alloc(), free, Some(free), None);
+    opens(rt, listening, Vec::new(rt.alloc()))
 }
 
 /// b.net, which is called at an address, and again after so many seconds.
@@ -74,7 +78,8 @@ fn callees(alloc: Global, address: SocketAddr, retry: Option<u16>) -> Option<Vec
 pub(crate) fn calls(rt: &HostRuntime, address: SocketAddr, retry: Option<u16>) -> Option<MioWire> {
     let free = LOOPBACK.parse::<SocketAddr>().ok()?;
     let callees = callees(rt.alloc(), address, retry)?;
-    opens(rt, listening(free, None, None), callees)
+    let listening = listening(rt.alloc(), free, None, None);
+    opens(rt, listening, callees)
 }
 
 /// Two wires of which one has called the other by the name b.net.

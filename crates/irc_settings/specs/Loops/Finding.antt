@@ -13,10 +13,10 @@ use Rattle.std.specs.BTreeMap.{BTreeMap}
 use Rattle.std.specs.declared.alloc.Global.{Global}
 use Rattle.irc_settings.specs.Configuration.{Tells, flag_at, integer_at, limit_at, pace_at}
 use Rattle.irc_settings.specs.Configuration.{pace_told, peer_at, peer_told, tables_at, tables_in}
-use Rattle.irc_settings.specs.Configuration.{text_at}
+use Rattle.irc_settings.specs.Configuration.{text_at, texts_at, texts_in}
 use Rattle.irc_settings.specs.Keys.{flag, integer, is_in_form, is_kept, is_of_kind, is_peer}
 use Rattle.irc_settings.specs.Keys.{is_server, is_table, needed, optional, server_keys, tables}
-use Rattle.irc_settings.specs.Keys.{text}
+use Rattle.irc_settings.specs.Keys.{is_text, text, texts}
 use Rattle.irc_settings.specs.declared.settings.LinesPace.{LinesPace}
 use Rattle.irc_settings.specs.declared.settings.PeerSettings.{PeerSettings}
 use Rattle.irc_settings.specs.declared.settings.Settings.{Settings}
@@ -138,6 +138,25 @@ abbrev pub FindsPeers : Members → Result (Vec PeerSettings Global) SettingsFau
 FindsPeers table =
     FindsValue (is_kept table (optional (codes "peer") (tables is_peer)))
     (λ found. map peer_at (tables_at (codes "peer") table) ≡ map peer_told found.items)
+
+-- ---- lists of texts
+
+-- each of these values is a text
+abbrev pub ReadsEachText : List Data → Result (Vec (String Global) Global) SettingsFault → Type 0
+ReadsEachText values =
+    FindsValue (list_all is_text values)
+    (λ found. filter_map as_str values ≡ map string_bytes found.items)
+
+-- a value is an array of texts
+abbrev pub ReadsAsTexts : Data → Result (Vec (String Global) Global) SettingsFault → Type 0
+ReadsAsTexts value = FindsValue (is_of_kind texts value)
+    (λ found. texts_in value ≡ map string_bytes found.items)
+
+-- the array of texts at a key, which may be left out
+abbrev pub FindsTexts : List ℕ → Members → Result (Vec (String Global) Global) SettingsFault
+    → Type 0
+FindsTexts key table = FindsValue (is_kept table (optional key texts))
+    (λ found. texts_at key table ≡ map string_bytes found.items)
 
 -- ---- the document
 

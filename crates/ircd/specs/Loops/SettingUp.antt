@@ -9,6 +9,8 @@ use Rattle.irc_doorman.specs.declared.asks.Asks.{Asks}
 use Rattle.irc_doorman.specs.Passwords.{IsClientPassword}
 use Rattle.irc_settings.specs.declared.settings.PeerSettings.{PeerSettings}
 use Rattle.irc_settings.specs.declared.settings.Settings.{Settings}
+use Rattle.irc_turns.specs.Ranges.{AreRanges, IsSomeNoRange}
+use Rattle.irc_turns.specs.declared.address_range.AddressRange.{AddressRange}
 use Rattle.irc_sockets.specs.declared.calls.Callee.{Callee}
 use Rattle.irc_endings.specs.declared.fault.Stop.{Stop}
 use Rattle.irc_endings.specs.declared.fault.Stop.TheVariants.{Usage, BadScript, BadConfiguration}
@@ -26,6 +28,14 @@ abbrev pub FindsOptional : Option (List ℕ) → Result (Option SocketAddr) Stop
 FindsOptional text (Ok address) = IsAddress text address
 FindsOptional (Some written) (Err stop) = (stop ≡ BadConfiguration) × IsNoAddress written
 FindsOptional None (Err stop) = ⊥
+
+-- the ranges that texts are; or one is none, or memory ran out
+abbrev pub FindsRanges : List (List ℕ) → Result (Vec AddressRange Global) Stop → Type 0
+FindsRanges texts (Ok ranges) = AreRanges texts ranges.items
+FindsRanges texts (Err BadConfiguration) = IsSomeNoRange texts
+FindsRanges texts (Err Failed) = ⊤
+FindsRanges texts (Err Usage) = ⊥
+FindsRanges texts (Err (BadScript line)) = ⊥
 
 -- the server's name that a text is, or that it is none
 abbrev pub FindsName : List ℕ → Result (List ℕ) Stop → Type 0

@@ -6,10 +6,10 @@ use Rattle.std.specs.List.{list_all}
 use Rattle.toml.specs.View.{table_view}
 use Rattle.irc_settings.specs.Configuration.{Tells, flag_at, integer_at, limit_at, pace_at}
 use Rattle.irc_settings.specs.Configuration.{pace_told, peer_at}
-use Rattle.irc_settings.specs.Configuration.{peer_told, tables_at, text_at}
+use Rattle.irc_settings.specs.Configuration.{peer_told, tables_at, text_at, texts_at}
 use Rattle.irc_settings.specs.Keys.{flag, integer, is_in_form, is_kept, is_peer, optional}
 use Rattle.irc_settings.specs.Keys.{server_keys}
-use Rattle.irc_settings.specs.Keys.{tables, text}
+use Rattle.irc_settings.specs.Keys.{tables, text, texts}
 use Rattle.irc_settings.specs.declared.settings.LinesPace.{LinesPace}
 use Rattle.irc_settings.specs.declared.settings.PeerSettings.{PeerSettings}
 use Rattle.irc_settings.proofs.KeysLost.{key_lost, pair_lost, refused}
@@ -106,6 +106,28 @@ returns-in_err-optional_number-3 c =
     (key_lost 16 server_keys key (drop 17 server_keys) table refl)
     c.in_err-optional_number-3.ensures c.from_residual-in_err-optional_number-3.ensures.1
 
+pub returns-in_err-texts : goal.returns-in_err-texts
+returns-in_err-texts c =
+    let table = table_view c.args.document.now in
+    let key = optional (codes "deny") texts in
+    refused (is_kept table key) (is_in_form server_keys table)
+    (λ (found : Vec (String Global) Global).
+    texts_at (codes "deny") table ≡ map string_bytes found.items) (Tells table)
+    c.from_residual-in_err-texts.result c.in_err-texts.field-0.0
+    (key_lost 17 server_keys key (drop 18 server_keys) table refl)
+    c.in_err-texts.ensures c.from_residual-in_err-texts.ensures.1
+
+pub returns-in_err-texts-2 : goal.returns-in_err-texts-2
+returns-in_err-texts-2 c =
+    let table = table_view c.args.document.now in
+    let key = optional (codes "proxies") texts in
+    refused (is_kept table key) (is_in_form server_keys table)
+    (λ (found : Vec (String Global) Global).
+    texts_at (codes "proxies") table ≡ map string_bytes found.items) (Tells table)
+    c.from_residual-in_err-texts-2.result c.in_err-texts-2.field-0.0
+    (key_lost 18 server_keys key (drop 19 server_keys) table refl)
+    c.in_err-texts-2.ensures c.from_residual-in_err-texts-2.ensures.1
+
 pub returns-in_err-peers : goal.returns-in_err-peers
 returns-in_err-peers c =
     let table = table_view c.args.document.now in
@@ -114,7 +136,7 @@ returns-in_err-peers c =
     (λ (found : Vec PeerSettings Global).
     map peer_at (tables_at (codes "peer") table) ≡ map peer_told found.items) (Tells table)
     c.from_residual-in_err-peers.result c.in_err-peers.field-0.0
-    (key_lost 17 server_keys key [] table refl)
+    (key_lost 19 server_keys key [] table refl)
     c.in_err-peers.ensures c.from_residual-in_err-peers.ensures.1
 
 pub returns : goal.returns
@@ -140,6 +162,8 @@ returns c =
       c.in_ok-optional_text-2.ensures.0,
       c.in_ok-optional_text-3.ensures.0,
       c.in_ok-optional_number-3.ensures.0,
+      c.in_ok-texts.ensures.0,
+      c.in_ok-texts-2.ensures.0,
       c.in_ok-peers.ensures.0,
     ) in (
       all_kept server_keys c.args.document.now.entries (sym c.has_only.ensures ∙ search rules) kept,
@@ -160,6 +184,8 @@ returns c =
         motd = c.in_ok-optional_text-2.ensures.1;
         password = c.in_ok-optional_text-3.ensures.1;
         ping_after = c.in_ok-optional_number-3.ensures.1;
+        deny = c.in_ok-texts.ensures.1;
+        proxies = c.in_ok-texts-2.ensures.1;
         peers = c.in_ok-peers.ensures.1;
       },
     )
