@@ -1,6 +1,6 @@
 -- Where nothing is asked for, what is put out is what the machine puts out.
-use Rattle.std.proofs.Common.{◌≡◌, ℕ, true, ◌&&◌, Option, Some, None, Result, Ok, Err, OnOk}
-use Rattle.std.proofs.Common.{List, [], ◌∷◌, ◌++◌, is_none, refl, sym, ◌∙◌, ap}
+use Rattle.std.proofs.Common.{◌≡◌, ℕ, true, false, is_some, ◌&&◌, Option, Some, None, Result, Ok, Err, OnOk}
+use Rattle.std.proofs.Common.{List, [], ◌∷◌, ◌++◌, is_none, option_map, refl, sym, ◌∙◌, ap}
 use Rattle.irc_batch.specs.Batches.{Sent, end_of, end_of_link, line_on, line_to}
 use Rattle.irc_door.specs.declared.manner.Manner.{Manner}
 use Rattle.irc_door.specs.declared.manner.Programs.{Programs}
@@ -51,3 +51,8 @@ appended_plainly manner asked (Ok _) held before after plain none put =
     put ∙ ap (λ outs. before ++ outs) (sym (all_plainly manner plain held)
     ∙ ap (λ some. said_by manner some held) (sym none))
 appended_plainly manner asked (Err _) held before after plain none put = tt
+
+pub none_of : {A B : Type 0} (f : A → B) (some : Option A) → is_some some ≡ false
+    → option_map f some ≡ None
+none_of f (Some x) none = cc none
+none_of f None none = refl
