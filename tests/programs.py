@@ -1,10 +1,11 @@
 #!/usr/bin/env python3
-"""What `programs = true` of `ircd serve` does, by lines and by two real programs.
+"""What `programs = true` and `motd` of `ircd serve` do, by lines and by two real programs.
 
     tests/programs.py PROGRAM
 
 Two daemons, of which one has the key: each row says a line to both, and wants what the page "With `programs`" of docs/PROFILE.md has of the one,
-and the page without it of the other. Then pydle (python3-pydle) and Net::Async::IRC (libnet-async-irc-perl), where they are installed, are each
+and the page without it of the other. Then daemons that have a message of the day, alone and with that key, beside one that has none, and files that
+are no message. Then pydle (python3-pydle) and Net::Async::IRC (libnet-async-irc-perl), where they are installed, are each
 in a channel whose modes another client sets and takes away: behind that they have to know which are set. Exit status: 1 where something differs.
 """
 import contextlib
@@ -25,6 +26,16 @@ client_room = 65536
 link_room = 65536
 programs = {programs}
 """
+# a line of each kind of end, an empty one, one that ends in spaces, one that is cut, and one without an end
+MESSAGE = "Hello\r\n\nthere  \n" + "x" * 600 + "\nlast"
+MESSAGE_TOLD = [":a.net 375 al :- a.net Message of the day - ", ":a.net 372 al :- Hello", ":a.net 372 al :- ", ":a.net 372 al :- there  ",
+                (":a.net 372 al :- " + "x" * 600)[:510], ":a.net 372 al :- last", ":a.net 376 al :End of MOTD command"]
+MISSING = [":a.net 422 al :MOTD File is missing"]
+# a room for clients and a message: taken, and refused
+TAKEN = ((2048, b""), (2048 + 105 + 5, b"Hello"), (65536, 100 * b"\n"), (65536, 8191 * b"x" + b"\n"), (65536, "\u044f".encode() + b"\r\n"))
+REFUSED = ((2047, b""), (2048 + 105 + 4, b"Hello"), (65536, 101 * b"\n"), (65536, 8193 * b"x"), (65536, b"a\0"), (65536, b"a\rb\n"), (65536, b"a\r"),
+           (65536, b"\xff"))
+CHECKER = pathlib.Path(__file__).resolve().parent.parent / "ircd-check"
 SUPPORTED = ("CASEMAPPING=rfc1459 CHANTYPES=# PREFIX=(ov)@+ CHANMODES=b,k,l,imnpst MODES=3 NICKLEN=30 CHANNELLEN=50 TOPICLEN=160 KICKLEN=160 MAXLIST=b:30 "
              "CHANLIMIT=#:10 TARGMAX=JOIN:,PART:,KICK:,LIST:,WHOIS:,PRIVMSG:4,NOTICE:4 :are supported by this server")
 # what is said, and what of the answer has to be there: without the key, and with it
@@ -62,11 +73,12 @@ class Client:
 
 
 @contextlib.contextmanager
-def daemon(program, port, programs):
+def daemon(program, port, programs, message=None):
     with tempfile.TemporaryDirectory() as folder:
         file = pathlib.Path(folder, "a.toml")
-        file.write_text(FILE.format(port=port, programs=str(programs).lower()))
-        process = subprocess.Popen([program, "serve", file], stdout=subprocess.PIPE, stderr=subprocess.DEVNULL)
+        file.write_text(FILE.format(port=port, programs=str(programs).lower()) + ('motd = "motd.txt"\n' if message is not None else ""))
+        pathlib.Path(folder, "motd.txt").write_bytes((message or "").encode())
+        process = subprocess.Popen([program, "serve", file], cwd=folder, stdout=subprocess.PIPE, stderr=subprocess.DEVNULL)
         try:
             process.stdout.readline()
             yield
@@ -103,6 +115,46 @@ def welcome_is_right(program, port, programs):
         lines = text.decode().split("\r\n")
         has_it = f":a.net 005 al {SUPPORTED}" == lines[lines.index(next(line for line in lines if " 004 " in line)) + 1]
         return told(f"programs {programs}: 005 behind 004", has_it == programs)
+
+
+def message_is_right(program, port, programs, message):
+    """Whether it is told behind registration and as the answer to MOTD, and what else is said stays."""
+    wanted = MISSING if message is None else MESSAGE_TOLD if message else [MESSAGE_TOLD[0], MESSAGE_TOLD[-1]]
+    with daemon(program, port, programs, message):
+        client = socket.create_connection(("127.0.0.1", port))
+        client.sendall(b"NICK al\r\nUSER u 0 * :Al\r\nPING ready\r\n")
+        text = b""
+        while b"PONG a.net :ready" not in text:
+            text += client.recv(65536)
+        client.sendall(b"MOTD\r\nPRIVMSG al ::a.net 422 al :x\r\nPING done\r\n")
+        while b"PONG a.net :done" not in text:
+            text += client.recv(65536)
+        lines = text.decode().split("\r\n")
+        welcome = [line for line in lines if line.split(" ")[1:2] in (["001"], ["002"], ["003"], ["004"], ["005"])]
+        expected = [*welcome, *wanted, ":a.net PONG a.net :ready", *wanted, ":al!u@127.0.0.1 PRIVMSG al ::a.net 422 al :x", ":a.net PONG a.net :done", ""]
+        name = "none" if message is None else f"{len(message)} bytes"
+        return told(f"programs {programs}, message: {name}", lines == expected and len(welcome) == 4 + programs)
+
+
+def ends_as_wanted(program, room, message, is_taken):
+    """Whether the program takes a message, or refuses the configuration, and `ircd-check` does the same."""
+    with tempfile.TemporaryDirectory() as folder:
+        file = pathlib.Path(folder, "a.toml")
+        text = FILE.format(port=0, programs="false").replace("client_room = 65536", f"client_room = {room}")
+        file.write_text(text + 'motd = "motd.txt"\n')
+        pathlib.Path(folder, "motd.txt").write_bytes(message)
+        served = subprocess.run([program, "serve", file, "0"], cwd=folder, capture_output=True, check=False)
+        checked = subprocess.run([sys.executable, CHECKER, file], cwd=folder, capture_output=True, check=False)
+        wanted = 0 if is_taken else 3
+        return told(f"message {'taken' if is_taken else 'refused'}: {message[:8]} of {len(message)} bytes, room {room}",
+                    served.returncode == wanted and checked.returncode == wanted)
+
+
+def messages_are_right(program):
+    result = [message_is_right(program, 16726 + 3 * programs + place, programs, message)
+              for programs in (False, True) for place, message in enumerate((None, MESSAGE, ""))]
+    result += [ends_as_wanted(program, *row, is_taken) for is_taken, rows in ((True, TAKEN), (False, REFUSED)) for row in rows]
+    return all(result)
 
 
 def is_utf8(text):
@@ -160,7 +212,9 @@ def asks(program, port, programs, command):
 
 
 def main(program):
+    program = pathlib.Path(program).resolve()
     result = [check(program, 16720 + programs, programs) for check in (welcome_is_right, lines_are_right) for programs in (False, True)]
+    result.append(messages_are_right(program))
     if importlib.util.find_spec("pydle"):
         print("     pydle without the key:", *asks(program, 16722, False, [sys.executable, "-c", PYDLE]))
         result.append(told("pydle: n, p and t are set", asks(program, 16723, True, [sys.executable, "-c", PYDLE]) == ["n,p,t"]))

@@ -82,6 +82,7 @@ GOOD = [
     with_own("name_within", "0"), with_own("name_within", "3_600"), with_own("links_per_address", "0"), with_own("links_per_address", "65535"),
     with_own("register_within", "1"), with_own("register_within", "3600"), with_own("lines_per_second", "1"), with_own("lines_per_second", "1000"),
     *[with_own("programs", programs) for programs in ("true", "false")], with_own("ping_after", "1"), with_own("ping_after", "3600"),
+    *[with_own("motd", motd) for motd in ('"/dev/null"', f'"{REPOSITORY}/HANDLES"')], written(OWN | {"motd": '"/dev/null"', "client_room": "2048"}),
     with_own("password", '"x"'), with_own("password", '": open sesame"'), with_own("password", '"' + 32 * "\u00e9" + '"'),
     *[with_own(key, ranges) for key in ("deny", "proxies")
       for ranges in ("[]", '["127.0.0.1"]', '["10.1.2.3/16", "::/0"]', '["0.0.0.0/0",\n"2001:DB8::1/128", ]', '["::ffff:1.2.3.4/32"]', '["1.2.3.4/32"]')],
@@ -117,6 +118,9 @@ BAD = [
       for ranges in ('"127.0.0.1"', "[1]", '[["127.0.0.1"]]', '[""]', '["localhost"]', '["10.1/16"]', '["10.1.0.0/33"]', '["10.1.0.0/016"]', '["10.1.0.0/"]',
                      '["10.1.0.0/+1"]', '["10.1.0.0/16/16"]', '["::1/129"]', '["[::1]"]', '["127.0.0.1:1"]', '["10.1.0.0 /16"]', '["127.0.0.1", "x"]', '["/8"]')],
     *[("programs", with_own("programs", programs)) for programs in ("1", '"true"', '"usual"', "[true]")],
+    *[("motd", with_own("motd", motd)) for motd in ("true", '""', '"/no_such_file"', f'"{REPOSITORY}"', f'"{REPOSITORY}/README.md"', '"\\u0000"')],
+    ("motd", written(OWN | {"motd": '"/dev/null"', "client_room": "2047"})),
+    ("motd", written(OWN | {"motd": f'"{REPOSITORY}/HANDLES"', "client_room": "2048"})), ("peer 1: motd", with_peer(motd='"/dev/null"')),
     ("burst_lines", with_own("burst_lines", "10")),
     *[("password", with_own("password", password)) for password in ('""', "3", '"' + 65 * "x" + '"', '"two\\nlines"', '"\\r"', '"\\u0000"')],
     *[("ping_after", with_own("ping_after", seconds)) for seconds in ("0", "3601", '"60"')],

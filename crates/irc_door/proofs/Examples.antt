@@ -8,7 +8,8 @@ use Rattle.irc_line.specs.Messages.{line_text}
 use Rattle.irc_line.specs.Reading.{read_of}
 use Rattle.irc_numerics.specs.Replies.{table}
 use Rattle.irc_door.specs.Letters.{whole_letters}
-use Rattle.irc_door.specs.Examples.{LettersAreWhole, OthersGo, RowsAreTurned, VersionIsOne}
+use Rattle.irc_door.specs.Examples.{LettersAreWhole, MessagesAreTold, OthersGo, RowsAreTurned}
+use Rattle.irc_door.specs.Examples.{TextsAreMessages, VersionIsOne}
 
 pub rows_are_turned : RowsAreTurned
 unfolding read_of line_text cut digits
@@ -25,3 +26,19 @@ letters_are_whole = record { two = refl; three = refl; four = refl; whole = refl
 pub version_is_one : VersionIsOne
 unfolding table
 version_is_one server = refl
+
+pub messages_are_told : MessagesAreTold
+unfolding read_of line_text cut
+messages_are_told = record { two_lines = refl; no_line = refl; in_a_text = refl; turned_too = refl }
+
+pub texts_are_messages : TextsAreMessages
+texts_are_messages = record {
+  nothing = refl;
+  two_lines = refl;
+  ended = refl;
+  inside = refl;
+  last = refl;
+  nul = refl;
+  room = refl;
+  just_room = refl;
+}

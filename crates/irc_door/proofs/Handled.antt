@@ -13,7 +13,7 @@ use Rattle.irc_door.specs.Doors.{refuses, said_by, says, wants_memory, IsTurned}
 module _ {M : Type 0} (handles : Handles M) (old new : Door M) (event : Event)
     (before held outs after : List Sent) where
   pub handled_said : held ≡ [] → handles old.machine event held (Ok tt) new.machine outs
-      → new.programs ≡ old.programs → after ≡ before ++ said_by old.programs outs
+      → new.manner ≡ old.manner → after ≡ before ++ said_by old.manner outs
       → IsTurned handles old event before (Ok tt) new after
   handled_said none done same said =
       says outs (subst (λ h. handles old.machine event h (Ok tt) new.machine outs) none done) same
@@ -21,7 +21,7 @@ module _ {M : Type 0} (handles : Handles M) (old new : Door M) (event : Event)
 
   pub handled_refused : (r : Result (Unit {0}) ServerFault) (fault : ServerFault) → held ≡ []
       → handles old.machine event held (Err fault) new.machine outs
-      → IsErrAnd r (λ f. f ≡ fault) → new.programs ≡ old.programs → after ≡ before
+      → IsErrAnd r (λ f. f ≡ fault) → new.manner ≡ old.manner → after ≡ before
       → IsTurned handles old event before r new after
   handled_refused (Ok _) fault none done failed same said = absurd failed
   handled_refused (Err f) fault none done failed same said =

@@ -6,9 +6,10 @@ use Rattle.std.proofs.Math.Seq.{drop-cons}
 use Rattle.std.proofs.lemmas.Option.{get_or_from_slice_get, none-some, slice_get_within}
 use Rattle.std.proofs.lemmas.Option.{slice_get-get_or}
 use Rattle.irc_batch.specs.Batches.{Sent, end_of}
-use Rattle.irc_door.specs.Doors.{all_said, said}
+use Rattle.irc_door.specs.declared.manner.Manner.{Manner}
+use Rattle.irc_door.specs.Doors.{said, said_by}
 
-module _ (outs : List Sent) (place : ℕ) where
+module _ (manner : Manner) (outs : List Sent) (place : ℕ) where
   -- what is there, and what follows it
   left : (sent : Sent) → slice_get outs place ≡ Some sent
       → drop place outs ≡ sent ∷ drop (place + 1) outs
@@ -20,13 +21,13 @@ module _ (outs : List Sent) (place : ℕ) where
       ∙ ap (λ n. sent ∷ drop n outs) next
 
   pub said_on : {E : Type 0} (r : Result (Unit {0}) E) (sent : Sent) (own before : List Sent)
-      → slice_get outs place ≡ Some sent → OnOk r (own ≡ before ++ said sent)
-      → OnOk r (own ++ all_said (drop (place + 1) outs)
-      ≡ before ++ all_said (drop place outs))
+      → slice_get outs place ≡ Some sent → OnOk r (own ≡ before ++ said manner sent)
+      → OnOk r (own ++ said_by manner (drop (place + 1) outs)
+      ≡ before ++ said_by manner (drop place outs))
   said_on (Ok _) sent own before there put =
-      ap (λ o. o ++ all_said (drop (place + 1) outs)) put
-      ∙ append_assoc before (said sent) (all_said (drop (place + 1) outs))
-      ∙ ap (λ rest. before ++ all_said rest) (sym (left sent there))
+      ap (λ o. o ++ said_by manner (drop (place + 1) outs)) put
+      ∙ append_assoc before (said manner sent) (said_by manner (drop (place + 1) outs))
+      ∙ ap (λ rest. before ++ said_by manner rest) (sym (left sent there))
   said_on (Err e) sent own before there put = tt
 
   -- something is there

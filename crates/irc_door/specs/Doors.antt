@@ -1,7 +1,7 @@
 -- A door in front of a machine: a server, or a layer around one. The machine is given each event as
--- it comes, one for one, and what it says to clients is turned as programs expect it
--- (`Turning.antt`), in order; what it puts out on links goes as it is, and so does whom it closes.
--- Where nothing is asked for, all goes as it is.
+-- it comes, one for one, and what it says to clients is written as the door's manner has it
+-- (`Manners.antt`), in order; what it puts out on links goes as it is, and so does whom it closes.
+-- Where nothing is asked for, all goes as it is (`IsPlainly`).
 use Rattle.std.specs.Prelude.{◌≡◌, ℕ, true, Option, Result, Ok, Err, List, [], ◌∷◌, ◌++◌, map}
 use Rattle.std.specs.List.{flat_map}
 use Rattle.irc_batch.specs.Batches.{Sent, end_of, end_of_link, line_on, line_to}
@@ -10,25 +10,25 @@ use Rattle.irc_server.specs.declared.event.Event.{Event}
 use Rattle.irc_server.specs.declared.event.ServerFault.{ServerFault}
 use Rattle.irc_engine.specs.Machines.{is_out_of_memory, due_by, never_due, Dues, Handles}
 use Rattle.irc_door.specs.declared.door.Door.{Door}
-use Rattle.irc_door.specs.declared.door.Programs.{Programs}
-use Rattle.irc_door.specs.declared.door.Programs.TheVariants.{Off, Usual}
-use Rattle.irc_door.specs.Turning.{turned, written}
+use Rattle.irc_door.specs.declared.manner.Manner.{Manner}
+use Rattle.irc_door.specs.Manners.{is_plain, written_by}
 
 abbrev pub to_client : ℕ → List (List ℕ) → List Sent
 to_client conn = map (line_to conn)
 
-abbrev pub said : Sent → List Sent
-said (line_to conn line) = to_client conn (written line (turned line))
-said (end_of conn) = end_of conn ∷ []
-said (line_on link line) = line_on link line ∷ []
-said (end_of_link link reason) = end_of_link link reason ∷ []
+abbrev pub said : Manner → Sent → List Sent
+said manner (line_to conn line) = to_client conn (written_by manner line)
+said manner (end_of conn) = end_of conn ∷ []
+said manner (line_on link line) = line_on link line ∷ []
+said manner (end_of_link link reason) = end_of_link link reason ∷ []
 
-abbrev pub all_said : List Sent → List Sent
-all_said = flat_map said
+abbrev pub said_by : Manner → List Sent → List Sent
+said_by manner = flat_map (said manner)
 
-abbrev pub said_by : Programs → List Sent → List Sent
-said_by Off outs = outs
-said_by Usual outs = all_said outs
+-- where nothing is asked for, what is put out is what the machine puts out
+abbrev pub IsPlainly : Type 0
+IsPlainly = (manner : Manner) → is_plain manner ≡ true → (outs : List Sent)
+    → said_by manner outs ≡ outs
 
 -- the server behind a door is its machine's
 abbrev pub server_behind : {M : Type 0} → (M → Option View) → Door M → Option View
@@ -39,11 +39,11 @@ server_behind server_of door = server_of door.machine
 pub data IsTurned {M : Type 0} (handles : Handles M) (old : Door M) (event : Event)
     (before : List Sent) : Result (Unit {0}) ServerFault → Door M → List Sent → Type 0 where
   says : {new : Door M} {after : List Sent} (outs : List Sent)
-      → handles old.machine event [] (Ok tt) new.machine outs → new.programs ≡ old.programs
-      → after ≡ before ++ said_by old.programs outs
+      → handles old.machine event [] (Ok tt) new.machine outs → new.manner ≡ old.manner
+      → after ≡ before ++ said_by old.manner outs
       → IsTurned handles old event before (Ok tt) new after
   refuses : {new : Door M} {after : List Sent} (fault : ServerFault) (outs : List Sent)
-      → handles old.machine event [] (Err fault) new.machine outs → new.programs ≡ old.programs
+      → handles old.machine event [] (Err fault) new.machine outs → new.manner ≡ old.manner
       → after ≡ before → IsTurned handles old event before (Err fault) new after
   wants_memory : {new : Door M} {after : List Sent} (fault : ServerFault)
       → is_out_of_memory fault ≡ true → IsTurned handles old event before (Err fault) new after
@@ -54,8 +54,8 @@ pub data IsSaid {M : Type 0}
     (old : Door M) (moment : ℕ) (before : List Sent)
     : Result (Unit {0}) ServerFault → Door M → List Sent → Type 0 where
   says_due : {new : Door M} {after : List Sent} (outs : List Sent)
-      → is_due old.machine moment [] (Ok tt) new.machine outs → new.programs ≡ old.programs
-      → after ≡ before ++ said_by old.programs outs
+      → is_due old.machine moment [] (Ok tt) new.machine outs → new.manner ≡ old.manner
+      → after ≡ before ++ said_by old.manner outs
       → IsSaid is_due old moment before (Ok tt) new after
   has_no_memory : {new : Door M} {after : List Sent} (fault : ServerFault)
       → is_out_of_memory fault ≡ true → IsSaid is_due old moment before (Err fault) new after

@@ -1,9 +1,14 @@
--- Texts for clients, and what is written: the examples of `Turning.antt` and `Letters.antt`.
-use Rattle.std.specs.Prelude.{◌≡◌, ℕ, List, [], ◌∷◌, ◌++◌, codes}
+-- Texts for clients, and what is written: the examples of `Turning.antt`, `Letters.antt` and
+-- `MessagesOfTheDay.antt`.
+use Rattle.std.specs.Prelude.{◌≡◌, ℕ, true, false, List, [], ◌∷◌, ◌++◌, codes}
+use Rattle.std.specs.Str.Lines.{lines}
 use Rattle.irc_line.specs.Bytes.{crlf}
 use Rattle.irc_numerics.specs.declared.replies.Reply.TheVariants.{MyInfo}
 use Rattle.irc_numerics.specs.Replies.{bare, table}
+use Rattle.irc_door.specs.declared.manner.Programs.TheVariants.{Off, Usual}
 use Rattle.irc_door.specs.Letters.{whole_letters}
+use Rattle.irc_door.specs.Manners.{written_or_told}
+use Rattle.irc_door.specs.MessagesOfTheDay.{has_room, is_message, missing_told}
 use Rattle.irc_door.specs.Turning.{turned, written}
 
 abbrev pub said_of : List ℕ → List (List ℕ)
@@ -44,3 +49,34 @@ pub record LettersAreWhole : Type 0 where
 abbrev pub VersionIsOne : Type 0
 VersionIsOne = (server : List ℕ) → table (MyInfo server)
     ≡ bare 004 (server ∷ codes "treeircd-1" ∷ codes "i" ∷ codes "biklmnopstv" ∷ [])
+
+-- of a door with a message
+abbrev pub told_with : (message : List (List ℕ)) → List ℕ → List (List ℕ)
+told_with message line =
+    written_or_told Off (line ++ crlf) message (missing_told (line ++ crlf))
+
+pub record MessagesAreTold : Type 0 where
+  pub two_lines : told_with (codes "Hello" ∷ codes "" ∷ [])
+      (codes ":a.net 422 al :MOTD File is missing")
+      ≡ (codes ":a.net 375 al :- a.net Message of the day - " ++ crlf)
+      ∷ (codes ":a.net 372 al :- Hello" ++ crlf) ∷ (codes ":a.net 372 al :- " ++ crlf)
+      ∷ (codes ":a.net 376 al :End of MOTD command" ++ crlf) ∷ []
+  pub no_line : told_with [] (codes ":a.net 422 al :MOTD File is missing")
+      ≡ (codes ":a.net 375 al :- a.net Message of the day - " ++ crlf)
+      ∷ (codes ":a.net 376 al :End of MOTD command" ++ crlf) ∷ []
+  pub in_a_text : told_with [] (codes ":al!u@h PRIVMSG bo ::a.net 422 al :MOTD File is missing")
+      ≡ (codes ":al!u@h PRIVMSG bo ::a.net 422 al :MOTD File is missing" ++ crlf) ∷ []
+  pub turned_too : written_or_told Usual (codes ":a.net 341 al #c bo" ++ crlf) []
+      (missing_told (codes ":a.net 341 al #c bo" ++ crlf))
+      ≡ (codes ":a.net 341 al bo #c" ++ crlf) ∷ []
+
+-- a CR before a line feed belongs to the end of the line, and no other may stand
+pub record TextsAreMessages : Type 0 where
+  pub nothing : is_message [] ≡ true
+  pub two_lines : lines (codes "Hello" ++ crlf ++ (10 ∷ [])) ≡ codes "Hello" ∷ [] ∷ []
+  pub ended : is_message (codes "Hello" ++ crlf) ≡ true
+  pub inside : is_message (codes "He" ++ (13 ∷ codes "llo")) ≡ false
+  pub last : is_message (codes "Hello" ++ (13 ∷ [])) ≡ false
+  pub nul : is_message (0 ∷ []) ≡ false
+  pub room : has_room 2259 (codes "Hi" ∷ [] ∷ []) ≡ false
+  pub just_room : has_room 2260 (codes "Hi" ∷ [] ∷ []) ≡ true

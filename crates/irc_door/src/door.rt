@@ -1,57 +1,38 @@
 //! A door in front of a machine.
-ghost use Rattle.std.specs.Prelude.{◌≡◌, ◌++◌, IfErr, OnOk};
+ghost use Rattle.std.specs.Prelude.{◌≡◌, IfErr};
 ghost use Rattle.irc_engine.specs.Machines.{IsConnectedBy, IsRefusal};
-ghost use Rattle.irc_door.specs.Doors.{said_by};
 
-use crate::saying::say_all;
+use crate::manner::Manner;
+use crate::saying::put_said;
 use irc_batch::Batch;
 use irc_engine::Machine;
 use irc_moments::Moment;
 use irc_server::{Event, Server, ServerFault};
-use std::alloc::{AllocError, Global};
-
-/// Whether a door says what programs expect.
-#[derive(Clone, Copy, Drop)]
-pub enum Programs {
-    /// What the machine says goes as it is.
-    Off,
-    /// It is turned as programs expect it.
-    Usual,
-}
+use std::alloc::Global;
 
 /// A door in front of a machine: what it is given is the machine's, as it comes, and what that says
 /// to clients is turned.
 #[derive(Drop)]
 pub struct Door<M: Machine> {
     machine: M,
-    programs: Programs,
+    manner: Manner,
     /// What the machine puts out by the event at hand.
     held: Batch,
     alloc: Global,
 }
 
 impl<M: Machine> Door<M> {
-    /// A door in front of a machine.
-    pub fn new(alloc: Global, machine: M, programs: Programs) -> Self
+    /// A door in front of a machine, which speaks so.
+    pub fn new(alloc: Global, machine: M, manner: Manner) -> Self
         ensures machine { result.machine ≡ machine }
-        ensures programs { result.programs ≡ programs }
+        ensures manner { result.manner ≡ manner }
     {
         Door {
             machine,
-            programs,
+            manner,
             held: Batch::new(alloc),
             alloc,
         }
-    }
-}
-
-/// What was put out goes on, as programs expect it where that is asked for.
-fn put_said(programs: Programs, held: &mut Batch, out: &mut Batch) -> Result<(), AllocError>
-    ensures { OnOk result (out.new.outs ≡ out.old.outs ++ said_by programs held.old.outs) }
-{
-    match programs {
-        Programs::Off => out.append(held),
-        Programs::Usual => say_all(held, out),
     }
 }
 
@@ -67,7 +48,7 @@ impl<M: Machine> Machine for Door<M> {
     fn handle(&mut self, event: &Event, out: &mut Batch) -> Result<(), ServerFault> {
         self.held.clear();
         self.machine.handle(event, &mut self.held)?;
-        put_said(self.programs, &mut self.held, out)?;
+        put_said(&self.manner, &mut self.held, out)?;
         Ok(())
     }
 
@@ -77,7 +58,7 @@ impl<M: Machine> Machine for Door<M> {
         if held.len() == 0 {
             return Ok(());
         }
-        put_said(self.programs, &mut held, out)?;
+        put_said(&self.manner, &mut held, out)?;
         Ok(())
     }
 

@@ -1,12 +1,20 @@
-//! What a door says, computed. A law is a function that does nothing, and its contract is the law:
-//! the check proves it.
-ghost use Rattle.irc_door.specs.Examples.{LettersAreWhole, OthersGo, RowsAreTurned};
-ghost use Rattle.irc_door.specs.Examples.{VersionIsOne};
+//! What a door says. A law is a function that does nothing, and its contract is the law: the check
+//! proves it.
+ghost use Rattle.irc_door.specs.Doors.{IsPlainly};
+ghost use Rattle.irc_door.specs.Examples.{LettersAreWhole, MessagesAreTold, OthersGo};
+ghost use Rattle.irc_door.specs.Examples.{RowsAreTurned, TextsAreMessages, VersionIsOne};
 
-/// Texts for clients.
+/// Where nothing is asked for, all goes as the machine says it.
+pub fn plain_as_it_is()
+    ensures { IsPlainly }
+{}
+
+/// Texts for clients, computed.
 pub fn texts_said()
     ensures rows { RowsAreTurned }
     ensures others { OthersGo }
     ensures letters { LettersAreWhole }
     ensures version { VersionIsOne }
+    ensures message { MessagesAreTold }
+    ensures texts { TextsAreMessages }
 {}

@@ -1,46 +1,57 @@
-//! What a machine puts out is said as programs expect it.
-ghost use Rattle.std.specs.Prelude.{◌≡◌, ◌++◌, ◌+◌, ◌<◌, ◌≤◌, drop, length, OnOk};
+//! What a machine puts out is said in the manner of a door.
+ghost use Rattle.std.specs.Prelude.{◌≡◌, ◌++◌, ◌+◌, ◌<◌, ◌≤◌, drop, length, OnOk, Some};
 ghost use Rattle.irc_line.specs.Limits.{max_text};
-ghost use Rattle.irc_batch.specs.Batches.{line_to, sent_of, IsText};
-ghost use Rattle.irc_door.specs.Doors.{all_said, said, to_client};
+ghost use Rattle.irc_batch.specs.Batches.{sent_of, IsText};
+ghost use Rattle.irc_door.specs.Doors.{said, said_by, to_client};
+ghost use Rattle.irc_door.specs.Manners.{written_by, written_usually, written_with};
 ghost use Rattle.irc_door.specs.Turning.{turned, written};
 
+use crate::manner::{Manner, Programs};
+use crate::motd::Motd;
+use crate::telling::{missing_told, tell};
 use crate::turning::{Turned, turn};
 use irc_batch::{Batch, Out};
 use std::alloc::AllocError;
 
+/// What was put out goes on, in that manner.
+pub(crate) fn put_said(manner: &Manner, held: &mut Batch, out: &mut Batch) -> Result<(), AllocError>
+    ensures { OnOk result (out.new.outs ≡ out.old.outs ++ said_by manner.now held.old.outs) }
+{
+    if manner.is_plain() {
+        return out.append(held);
+    }
+    say_all(manner, held, out)
+}
+
 /// Says all that a machine has put out.
-///
-/// # Errors
-/// Where memory runs out.
-pub(crate) fn say_all(held: &Batch, out: &mut Batch) -> Result<(), AllocError>
-    ensures { OnOk result (out.new.outs ≡ out.old.outs ++ all_said held.now.outs) }
+fn say_all(manner: &Manner, held: &Batch, out: &mut Batch) -> Result<(), AllocError>
+    ensures { OnOk result (out.new.outs ≡ out.old.outs ++ said_by manner.now held.now.outs) }
 {
     for place in 0..held.len() {
-        say_at(held, place, out)?;
+        say_at(manner, held, place, out)?;
     }
     Ok(())
 }
 
 /// Says what stands at a place.
-fn say_at(held: &Batch, place: usize, out: &mut Batch) -> Result<(), AllocError>
+fn say_at(manner: &Manner, held: &Batch, place: usize, out: &mut Batch) -> Result<(), AllocError>
     requires there { place < length held.now.outs }
-    ensures { OnOk result (out.new.outs ++ all_said (drop (place + 1) held.now.outs)
-        ≡ out.old.outs ++ all_said (drop place held.now.outs)) }
+    ensures { OnOk result (out.new.outs ++ said_by manner.now (drop (place + 1) held.now.outs)
+        ≡ out.old.outs ++ said_by manner.now (drop place held.now.outs)) }
 {
     match held.get(place) {
-        Some(sent) => say(sent, out),
+        Some(sent) => say(manner, sent, out),
         None => Ok(()),
     }
 }
 
 /// Says one thing.
-fn say(sent: Out<'_>, out: &mut Batch) -> Result<(), AllocError>
+fn say(manner: &Manner, sent: Out<'_>, out: &mut Batch) -> Result<(), AllocError>
     requires fits { IsText (sent_of sent) }
-    ensures { OnOk result (out.new.outs ≡ out.old.outs ++ said (sent_of sent.entry)) }
+    ensures { OnOk result (out.new.outs ≡ out.old.outs ++ said manner.now (sent_of sent.entry)) }
 {
     match sent {
-        Out::Line(conn, line) => say_to(conn, line, out),
+        Out::Line(conn, line) => say_to(manner, conn, line, out),
         Out::Close(conn) => out.close(conn),
         Out::LinkLine(link, line) => out.put_on(link, line),
         Out::LinkClose(link, reason) => out.close_link(link, reason),
@@ -48,7 +59,54 @@ fn say(sent: Out<'_>, out: &mut Batch) -> Result<(), AllocError>
 }
 
 /// Says a text to a client.
-fn say_to(conn: u64, line: &[u8], out: &mut Batch) -> Result<(), AllocError>
+fn say_to(manner: &Manner, conn: u64, line: &[u8], out: &mut Batch) -> Result<(), AllocError>
+    requires fits { length line.now ≤ max_text }
+    ensures { OnOk result (out.new.outs
+        ≡ out.old.outs ++ to_client conn (written_by manner.now line.now)) }
+{
+    match &manner.motd {
+        Some(motd) => tell_or_say(manner.programs, motd, conn, line, out),
+        None => say_usually(manner.programs, conn, line, out),
+    }
+}
+
+/// Tells the message of the day in place of 422, and says any other text.
+fn tell_or_say(
+    programs: Programs,
+    motd: &Motd,
+    conn: u64,
+    line: &[u8],
+    out: &mut Batch,
+) -> Result<(), AllocError>
+    requires fits { length line.now ≤ max_text }
+    ensures { OnOk result (out.new.outs ≡ out.old.outs
+        ++ to_client conn (written_with programs (Some motd.now) line.now)) }
+{
+    match missing_told(line) {
+        Some(hearer) => tell(motd, &hearer, conn, out),
+        None => say_usually(programs, conn, line, out),
+    }
+}
+
+/// Says a text as programs expect it, where that is asked for.
+fn say_usually(
+    programs: Programs,
+    conn: u64,
+    line: &[u8],
+    out: &mut Batch,
+) -> Result<(), AllocError>
+    requires fits { length line.now ≤ max_text }
+    ensures { OnOk result (out.new.outs
+        ≡ out.old.outs ++ to_client conn (written_usually programs line.now)) }
+{
+    match programs {
+        Programs::Off => out.put(conn, line),
+        Programs::Usual => say_turned(conn, line, out),
+    }
+}
+
+/// Says a text as programs expect it.
+fn say_turned(conn: u64, line: &[u8], out: &mut Batch) -> Result<(), AllocError>
     requires fits { length line.now ≤ max_text }
     ensures { OnOk result (out.new.outs
         ≡ out.old.outs ++ to_client conn (written line.now (turned line.now))) }

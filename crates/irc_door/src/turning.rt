@@ -168,14 +168,14 @@ fn line_of(line: &[u8]) -> Text
 }
 
 /// Whether a line has this number, or this word in its place.
-fn says(command: &[u8], message: &Message<'_>) -> bool
+pub(crate) fn says(command: &[u8], message: &Message<'_>) -> bool
     ensures { result ≡ says command.now (parsed message.now) }
 {
     message.command == command
 }
 
 /// A word of a line; no bytes where the line has fewer.
-fn word_at<'a>(message: &Message<'a>, place: usize) -> &'a [u8]
+pub(crate) fn word_at<'a>(message: &Message<'a>, place: usize) -> &'a [u8]
     ensures { result.now ≡ word_at place (parsed message.now) }
 {
     match message.params.as_slice().get(place) {
@@ -192,7 +192,7 @@ fn last_word<'a>(message: &Message<'a>) -> &'a [u8]
 }
 
 /// A line without its CR LF.
-fn body(line: &[u8]) -> &[u8]
+pub(crate) fn body(line: &[u8]) -> &[u8]
     ensures { result.now ≡ body line.now }
 {
     &line[..line.len().saturating_sub(2)]

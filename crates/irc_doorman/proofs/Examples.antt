@@ -3,7 +3,7 @@ use Rattle.std.proofs.Common.{refl}
 use Rattle.irc_line.specs.Bytes.{cut}
 use Rattle.irc_line.specs.Messages.{line_text}
 use Rattle.irc_line.specs.Reading.{read_of}
-use Rattle.irc_numerics.specs.Replies.{table}
+use Rattle.irc_numerics.specs.Replies.{numbered, reply_number, table, words}
 use Rattle.irc_doorman.specs.Examples.{LinesAreJudged, TextsAreSo, WordsAreOne}
 
 pub texts_are_so : TextsAreSo
@@ -31,5 +31,5 @@ lines_are_judged = record {
 }
 
 pub words_are_one : WordsAreOne
-unfolding table
+unfolding numbered reply_number words table line_text cut
 words_are_one server = refl

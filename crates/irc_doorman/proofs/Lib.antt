@@ -1,5 +1,6 @@
-pub mod Admitting
-pub mod Alike
+pub mod Asked
 pub mod Asking
 pub mod Examples
+pub mod Passing
 pub mod Told
+pub mod Watching

@@ -1,11 +1,11 @@
 -- What a doorman says: who is connected by it, and why it refuses an event.
-use Rattle.std.proofs.Common.{◌≡◌, ℕ, Bool, true, false, not, ◌&&◌, ◌||◌, nat_eq, Option, Some}
-use Rattle.std.proofs.Common.{List, [], ◌∷◌, ◌++◌, refl, sym, ◌∙◌, ap, append_assoc, append-nil}
-use Rattle.std.proofs.Common.{subst}
+use Rattle.std.proofs.Common.{◌≡◌, ℕ, Bool, true, false, not, ◌&&◌, ◌||◌, nat_eq, Option}
+use Rattle.std.proofs.Common.{List, [], ◌∷◌, ◌++◌, refl, sym, ◌∙◌, ap, append_assoc}
 use Rattle.std.proofs.lemmas.Bool.{eqb-true}
 use Rattle.std.proofs.lemmas.List.Folds.{list_any-append}
 use Rattle.arrayvec.specs.ArrayVec.{ArrayVec}
 use Rattle.irc_batch.specs.Batches.{Sent, end_of, line_to}
+use Rattle.irc_line.specs.Messages.{text}
 use Rattle.irc_stage.specs.View.{View}
 use Rattle.irc_server.specs.declared.event.Event.{Event}
 use Rattle.irc_server.specs.declared.event.Event.TheVariants.{Connect, Line, Gone, LinkUp, LinkLine}
@@ -22,6 +22,7 @@ use Rattle.irc_doorman.specs.declared.guest.Fate.{Fate}
 use Rattle.irc_doorman.specs.declared.guest.Fate.TheVariants.{Passes, LacksWord, TurnedAway}
 use Rattle.irc_doorman.specs.declared.guest.Guest.{Guest}
 use Rattle.irc_doorman.specs.Doormen.{conn_of, fate_at, given, is_there, line_fate, told, Guests}
+use Rattle.irc_doorman.specs.Texts.{bad_password, closing}
 
 -- ---- booleans
 
@@ -84,7 +85,7 @@ said_behind event server after before between end more no_client no_link by is =
 -- ---- who is turned away is told so, and closed
 
 module _ (conn : ℕ) (line : ArrayVec ℕ) (one other : List ℕ) where
-  last : List Sent
+  abbrev last : List Sent
   last = line_to conn one ∷ line_to conn other ∷ end_of conn ∷ []
 
   away : (was new : View) (x : List Sent) → has_client was conn ≡ true
@@ -131,35 +132,39 @@ there_of : (there : Bool) (guest : Option Guest) (line : List ℕ)
 there_of true guest line is = refl
 there_of false guest line is = cc is
 
--- ---- by an event
+-- nobody else is
+never_away : {A : Type 0} → TurnedAway ≡ Passes → A
+never_away is = cc is
 
-connected_of : (asks : Asks) (fate : Fate) (guests : Guests) (event : Event)
-    (server after : Option View) (before between end : List Sent)
-    → fate ≡ fate_at server guests event → IsConnectedBy server (given fate event) before after between
-    → end ≡ between ++ told asks fate (conn_of event) → IsConnectedBy server event before after end
-connected_of asks Passes guests event server after before between end is by said =
-    said_behind event server after before between end [] (λ q. refl) (λ q. refl) by said
-connected_of asks LacksWord guests event server after before between end is by said =
-    said_behind event server after before between end (told asks LacksWord (conn_of event))
-    (λ q. refl) (λ q. refl) by said
-connected_of asks TurnedAway guests (Line conn line) server after before between end is by said =
-    turned_away conn line _ _ server after before between end
-    (there_of (is_there server conn) (guests conn) line.items is) by said
-connected_of asks TurnedAway guests (Connect conn host) server after before between end is by said =
-    cc is
-connected_of asks TurnedAway guests (Gone conn) server after before between end is by said = cc is
-connected_of asks TurnedAway guests (LinkUp link name) server after before between end is by said =
-    cc is
-connected_of asks TurnedAway guests (LinkLine link line) server after before between end is by said =
-    cc is
-connected_of asks TurnedAway guests (LinkDown link) server after before between end is by said =
-    cc is
+-- ---- by an event
 
 pub connected_told : (asks : Asks) (fate : Fate) (guests : Guests) (event : Event)
     (server after : Option View) (before between end : List Sent)
-    → fate ≡ fate_at server guests event → IsConnectedBy server (given fate event) before after between
+    → fate ≡ fate_at server guests event → IsConnectedBy server (given fate event) before after
+    between
     → end ≡ between ++ told asks fate (conn_of event) → IsConnectedBy server event before after end
-connected_told = connected_of
+connected_told asks Passes guests event server after before between end is by said =
+    said_behind event server after before between end [] (λ q. refl) (λ q. refl) by said
+connected_told asks LacksWord guests event server after before between end is by said =
+    said_behind event server after before between end (told asks LacksWord (conn_of event))
+    (λ q. refl) (λ q. refl) by said
+connected_told asks TurnedAway guests (Line conn line) server after before between end is by said =
+    turned_away conn line (text (bad_password asks.server)) (text closing) server after before
+    between end
+    (there_of (is_there server conn) (guests conn) line.items is) by said
+connected_told asks TurnedAway guests (Connect conn host) server after before between end is by
+    said =
+    never_away is
+connected_told asks TurnedAway guests (Gone conn) server after before between end is by said =
+    never_away is
+connected_told asks TurnedAway guests (LinkUp link name) server after before between end is by said
+    =
+    never_away is
+connected_told asks TurnedAway guests (LinkLine link line) server after before between end is by
+    said =
+    never_away is
+connected_told asks TurnedAway guests (LinkDown link) server after before between end is by said =
+    never_away is
 
 -- the line of who is not there is refused as its leaving is
 gone_owed : (server : Option View) (conn : ℕ) (line : ArrayVec ℕ) (fault : ServerFault)
@@ -175,8 +180,8 @@ refused_given Passes guests event server fault is owed = owed
 refused_given LacksWord guests event server fault is owed = owed
 refused_given TurnedAway guests (Line conn line) server fault is owed =
     gone_owed server conn line fault owed
-refused_given TurnedAway guests (Connect conn host) server fault is owed = cc is
-refused_given TurnedAway guests (Gone conn) server fault is owed = cc is
-refused_given TurnedAway guests (LinkUp link name) server fault is owed = cc is
-refused_given TurnedAway guests (LinkLine link line) server fault is owed = cc is
-refused_given TurnedAway guests (LinkDown link) server fault is owed = cc is
+refused_given TurnedAway guests (Connect conn host) server fault is owed = never_away is
+refused_given TurnedAway guests (Gone conn) server fault is owed = never_away is
+refused_given TurnedAway guests (LinkUp link name) server fault is owed = never_away is
+refused_given TurnedAway guests (LinkLine link line) server fault is owed = never_away is
+refused_given TurnedAway guests (LinkDown link) server fault is owed = never_away is

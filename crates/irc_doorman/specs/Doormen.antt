@@ -11,7 +11,7 @@
 --   al says nothing for 60 s               al is told `PING :a.net`
 --   al says something                      it is asked again 60 s behind that
 --   al says nothing for 60 s more          the machine is given `QUIT :Ping timeout` of al
-use Rattle.std.specs.Prelude.{◌≡◌, ℕ, ◌*◌, Bool, true, false, not, ◌&&◌, Option, Some, None, is_some}
+use Rattle.std.specs.Prelude.{◌≡◌, ℕ, ◌*◌, Bool, true, false, not, Option, Some, None}
 use Rattle.std.specs.Prelude.{Result, Ok, Err, List, [], ◌∷◌, ◌++◌, codes, filter, map, nat_eq}
 use Rattle.std.specs.Prelude.{nat_lt, if◌then◌else◌}
 use Rattle.std.specs.Option.{option_map, option_map_or}
@@ -59,11 +59,11 @@ server_behind server_of doorman = server_of doorman.machine
 -- a doorman that has seen nobody
 pub record IsNewDoorman {M : Type 0} (machine : M) (asks : Asks) (doorman : Doorman M) : Type 0
   where
-  pub machine_is : doorman.machine ≡ machine
-  pub asks_is : doorman.asks ≡ asks
-  pub nobody_known : guest_at doorman.guests ≡ (λ conn. None)
-  pub moment_is : doorman.moment ≡ 0
-  pub look_is : doorman.next_look ≡ 0
+    pub machine_is : doorman.machine ≡ machine
+    pub asks_is : doorman.asks ≡ asks
+    pub nobody_known : guest_at doorman.guests ≡ (λ conn. None)
+    pub moment_is : doorman.moment ≡ 0
+    pub look_is : doorman.next_look ≡ 0
 
 -- whether a client is there
 abbrev pub is_there : Option View → ℕ → Bool
@@ -191,7 +191,7 @@ pub data IsAsked {M : Type 0} (server_of : M → Option View) (handles : Handles
     (moment conn : ℕ) (old : State M) : State M → Type 0 where
   is_gone : is_there (server_of old.machine) conn ≡ false
       → IsAsked server_of handles asks moment conn old
-        (with_guests (with_guest conn None old.guests) old)
+      (with_guests (with_guest conn None old.guests) old)
   is_unknown : old.guests conn ≡ None → IsAsked server_of handles asks moment conn old old
   asks_it : (guest : Guest) → is_there (server_of old.machine) conn ≡ true
       → old.guests conn ≡ Some guest → guest.is_asked ≡ false
@@ -215,9 +215,12 @@ pub data AreAsked {M : Type 0} (server_of : M → Option View) (handles : Handle
       → AreAsked server_of handles asks moment (conn ∷ conns) old new
 
 -- the clients that are silent, in the order of their numbers
+abbrev pub silent_among : ℕ → ℕ → List (ℕ × Guest) → List ℕ
+silent_among silence moment known =
+    map (λ one. one.0) (filter (λ one. is_silent silence moment one.1) known)
+
 abbrev pub silent_of : ℕ → ℕ → BTreeMap ℕ Guest → List ℕ
-silent_of silence moment guests =
-    map (λ entry. entry.0) (filter (λ entry. is_silent silence moment entry.1) guests.entries)
+silent_of silence moment guests = silent_among silence moment guests.entries
 
 -- whether they are looked for at a moment, which is once a second
 abbrev pub looks_at : Option ℕ → ℕ → ℕ → Bool
@@ -225,11 +228,11 @@ looks_at None next_look moment = false
 looks_at (Some seconds) next_look moment = not (nat_lt moment next_look)
 
 -- whom a doorman asks at a moment
-abbrev pub silent_at : {M : Type 0} → Option ℕ → Doorman M → ℕ → List ℕ
-silent_at None doorman moment = []
-silent_at (Some seconds) doorman moment =
-    if looks_at (Some seconds) doorman.next_look moment
-    then silent_of (seconds * 1000) moment doorman.guests else []
+abbrev pub silent_at : Option ℕ → ℕ → ℕ → BTreeMap ℕ Guest → List ℕ
+silent_at None next_look moment guests = []
+silent_at (Some seconds) next_look moment guests =
+    if looks_at (Some seconds) next_look moment then silent_of (seconds * 1000) moment guests
+    else []
 
 -- when they are looked for next
 abbrev pub next_look_behind : {M : Type 0} → Doorman M → ℕ → ℕ
@@ -244,8 +247,9 @@ pub data IsWatched {M : Type 0} (server_of : M → Option View) (handles : Handl
     : Result (Unit {0}) ServerFault → Doorman M → List Sent → Type 0 where
   watches : {new : Doorman M} {after : List Sent} (machine : M) (between : List Sent)
       → IsDue dues old.machine moment before (Ok tt) machine between
-      → AreAsked server_of handles old.asks moment (silent_at old.asks.ping_after old moment)
-        (state_of machine (guest_at old.guests) between) (state_with new after)
+      → AreAsked server_of handles old.asks moment
+      (silent_at old.asks.ping_after old.next_look moment old.guests)
+      (state_of machine (guest_at old.guests) between) (state_with new after)
       → new.asks ≡ old.asks → new.moment ≡ moment → new.next_look ≡ next_look_behind old moment
       → IsWatched server_of handles dues old moment before (Ok tt) new after
   lacks_memory : {new : Doorman M} {after : List Sent} (fault : ServerFault)

@@ -1,9 +1,8 @@
 -- Texts of a doorman, and what becomes of lines, computed: the examples of `Texts.antt` and
 -- `Guests.antt`.
-use Rattle.std.specs.Prelude.{◌≡◌, ℕ, Some, None, List, [], ◌∷◌, ◌++◌, codes}
+use Rattle.std.specs.Prelude.{◌≡◌, ℕ, Some, None, List, ◌++◌, codes}
 use Rattle.irc_line.specs.Bytes.{crlf}
 use Rattle.irc_line.specs.Messages.{text}
-use Rattle.irc_names.specs.declared.server_name.ServerName.{ServerName}
 use Rattle.irc_numerics.specs.declared.replies.Reply.TheVariants.{NeedMoreParams}
 use Rattle.irc_numerics.specs.Replies.{reply_text}
 use Rattle.irc_doorman.specs.declared.asks.Asks.{Asks}
@@ -50,4 +49,6 @@ pub record LinesAreJudged : Type 0 where
 -- 461 is the one that a server says
 abbrev pub WordsAreOne : Type 0
 WordsAreOne = (server : List ℕ)
-    → text (lacking server) ≡ reply_text server None (NeedMoreParams (record { items = codes "PASS" }))
+    → text (lacking server) ≡ reply_text server None (NeedMoreParams (record {
+      items = codes "PASS";
+    }))

@@ -1,12 +1,13 @@
 //! A doorman in front of a machine.
-ghost use Rattle.std.specs.Prelude.{◌≡◌, ◌++◌, IfErr, IfOk, OnOk, None, Ok, true};
+ghost use Rattle.std.specs.Prelude.{◌≡◌, ◌*◌, ◌++◌, IfErr, IfOk, OnOk, None, Ok, true};
 ghost use Rattle.std.specs.Option.{option_copied, option_map};
 ghost use Rattle.irc_engine.specs.Machines.{is_out_of_memory, IsConnectedBy, IsRefusal};
 ghost use Rattle.irc_engine.specs.Machines.{IsStillConnected};
-ghost use Rattle.irc_doorman.specs.Doormen.{change_guest, conn_of, fate_at, guest_at};
-ghost use Rattle.irc_doorman.specs.Doormen.{guests_behind, is_there, line_fate, quits, silent_of};
-ghost use Rattle.irc_doorman.specs.Doormen.{state_with, told, with_guest, with_new, AreAsked};
-ghost use Rattle.irc_doorman.specs.Doormen.{IsAsked, IsPassed, IsSameDoorman};
+ghost use Rattle.irc_doorman.specs.Doormen.{change_guest, conn_of, fate_at, given, guest_at};
+ghost use Rattle.irc_doorman.specs.Doormen.{guests_behind, is_there, line_fate, next_look_behind};
+ghost use Rattle.irc_doorman.specs.Doormen.{quits, silent_at, silent_of, state_with, told};
+ghost use Rattle.irc_doorman.specs.Doormen.{with_guest, with_new, AreAsked, IsAsked, IsPassed};
+ghost use Rattle.irc_doorman.specs.Doormen.{IsSameDoorman};
 ghost use Rattle.irc_doorman.specs.Guests.{guest_asked};
 
 use crate::asks::Asks;
@@ -57,7 +58,8 @@ impl<M: Machine> Doorman<M> {
 
     /// What becomes of an event.
     fn fate(&self, event: &Event) -> Fate
-        ensures { result ≡ fate_at (M.server_of self.now.machine) (guest_at self.now.guests) event.now }
+        ensures { result
+            ≡ fate_at (M.server_of self.now.machine) (guest_at self.now.guests) event.now }
     {
         match event {
             Event::Line(conn, line) if self.machine.server().has_client(*conn) => {
@@ -93,6 +95,44 @@ impl<M: Machine> Doorman<M> {
         self.pass(&Event::Gone(conn), out)
     }
 
+    /// The machine is given what becomes of an event.
+    fn give(&mut self, fate: Fate, event: &Event, out: &mut Batch) -> Result<(), ServerFault>
+        ensures passed { IsPassed M.handles self.old (given fate event.now) out.old.outs result
+            self.new out.new.outs }
+        ensures connected { OnOk result (IsConnectedBy (M.server_of self.old.machine)
+            (given fate event.now) out.old.outs (M.server_of self.new.machine) out.new.outs) }
+        ensures refused { IfErr result
+            (IsRefusal (M.server_of self.old.machine) (given fate event.now)) }
+    {
+        match fate {
+            Fate::Passes => self.pass(event, out),
+            Fate::LacksWord => self.pass(event, out),
+            Fate::TurnedAway => self.leave(conn_of(event), out),
+        }
+    }
+
+    /// Asks those who are silent at a moment, if they are looked for then.
+    fn watch(&mut self, moment: Moment, out: &mut Batch) -> Result<(), AllocError>
+        ensures asked { OnOk result (AreAsked M.server_of M.handles self.old.asks moment
+            (silent_at self.old.asks.ping_after self.old.next_look moment self.old.guests)
+            (state_with self.old out.old.outs) (state_with self.new out.new.outs)) }
+        ensures asks { self.new.asks ≡ self.old.asks }
+        ensures moment { self.new.moment ≡ moment }
+        ensures look { self.new.next_look ≡ next_look_behind self.old moment }
+        ensures connected { OnOk result (IsStillConnected (M.server_of self.old.machine)
+            out.old.outs (M.server_of self.new.machine) out.new.outs) }
+    {
+        self.moment = moment;
+        let Some(seconds) = self.asks.ping_after else {
+            return Ok(());
+        };
+        if moment.is_before(self.next_look) {
+            return Ok(());
+        }
+        self.next_look = moment.later(LOOK_MS);
+        self.look(milliseconds(seconds), moment, out)
+    }
+
     /// Asks those who have said nothing for so many milliseconds.
     fn look(&mut self, silence: u64, moment: Moment, out: &mut Batch) -> Result<(), AllocError>
         ensures asked { OnOk result (AreAsked M.server_of M.handles self.old.asks moment
@@ -119,7 +159,7 @@ impl<M: Machine> Doorman<M> {
             out.old.outs (M.server_of self.new.machine) out.new.outs) }
     {
         if !self.machine.server().has_client(conn) {
-            self.guests.remove(&conn);
+            forget(&mut self.guests, conn);
             return Ok(());
         }
         match is_asked(self.guests.get(&conn)) {
@@ -143,12 +183,26 @@ impl<M: Machine> Doorman<M> {
         ensures connected { OnOk result (IsStillConnected (M.server_of self.old.machine)
             out.old.outs (M.server_of self.new.machine) out.new.outs) }
     {
-        self.guests.remove(&conn);
+        forget(&mut self.guests, conn);
         match self.machine.handle(&Event::Line(conn, quit_line()), out) {
             Ok(()) => Ok(()),
             Err(_) => Err(AllocError),
         }
     }
+}
+
+/// So many seconds.
+fn milliseconds(seconds: u16) -> u64
+    ensures { result ≡ seconds * 1000 }
+{
+    u64::from(seconds) * 1000
+}
+
+/// Nothing is known of a client any more.
+fn forget(guests: &mut Guests, conn: u64)
+    ensures { guest_at guests.new ≡ with_guest conn None (guest_at guests.old) }
+{
+    guests.remove(&conn);
 }
 
 /// Whether a client was asked, if it is known.
@@ -221,7 +275,7 @@ fn note(guests: &mut Guests, asks: &Asks, moment: Moment, event: &Event) -> Resu
             Ok(())
         }
         Event::Gone(conn) => {
-            guests.remove(conn);
+            forget(guests, *conn);
             Ok(())
         }
         Event::LinkUp(_, _) | Event::LinkLine(_, _) | Event::LinkDown(_) => Ok(()),
@@ -229,12 +283,7 @@ fn note(guests: &mut Guests, asks: &Asks, moment: Moment, event: &Event) -> Resu
 }
 
 /// One that comes is known where anything is asked.
-fn note_new(
-    guests: &mut Guests,
-    asks: &Asks,
-    moment: Moment,
-    conn: u64,
-) -> Result<(), AllocError>
+fn note_new(guests: &mut Guests, asks: &Asks, moment: Moment, conn: u64) -> Result<(), AllocError>
     ensures { OnOk result
         (guest_at guests.new ≡ with_new asks.now moment conn (guest_at guests.old)) }
 {
@@ -276,25 +325,14 @@ impl<M: Machine> Machine for Doorman<M> {
 
     fn handle(&mut self, event: &Event, out: &mut Batch) -> Result<(), ServerFault> {
         let fate = self.fate(event);
-        match fate {
-            Fate::Passes | Fate::LacksWord => self.pass(event, out)?,
-            Fate::TurnedAway => self.leave(conn_of(event), out)?,
-        }
+        self.give(fate, event, out)?;
         tell(&self.asks, fate, conn_of(event), out)?;
         Ok(())
     }
 
     fn due(&mut self, moment: Moment, out: &mut Batch) -> Result<(), ServerFault> {
         self.machine.due(moment, out)?;
-        self.moment = moment;
-        let Some(seconds) = self.asks.ping_after else {
-            return Ok(());
-        };
-        if moment.is_before(self.next_look) {
-            return Ok(());
-        }
-        self.next_look = moment.later(LOOK_MS);
-        self.look(u64::from(seconds) * 1000, moment, out)?;
+        self.watch(moment, out)?;
         Ok(())
     }
 

@@ -1,5 +1,6 @@
 //! The password that clients give.
 ghost use Rattle.std.specs.Prelude.{◌≡◌, length};
+ghost use Rattle.std.specs.List.{list_all};
 ghost use Rattle.std.specs.Option.{SomeIff};
 ghost use Rattle.std.specs.Str.{bytes_eq};
 ghost use Rattle.irc_doorman.specs.Passwords.{can_be_said, is_client_password, IsClientPassword};
@@ -55,9 +56,14 @@ impl ClientPassword {
 fn is_client_password(bytes: &[u8]) -> bool
     ensures { result ≡ is_client_password bytes.now }
 {
-    !bytes.is_empty()
-        && bytes.len() <= MAX_CLIENT_PASSWORD
-        && bytes.iter().all(|byte| can_be_said(*byte))
+    !bytes.is_empty() && bytes.len() <= MAX_CLIENT_PASSWORD && are_said(bytes)
+}
+
+/// Whether a line can have these bytes.
+fn are_said(bytes: &[u8]) -> bool
+    ensures { result ≡ list_all can_be_said bytes.now }
+{
+    bytes.iter().all(|byte| can_be_said(*byte))
 }
 
 /// Whether a line can have a byte.
@@ -74,7 +80,7 @@ fn are_alike(own: &[u8], word: &[u8]) -> bool
 {
     let mut alike = true;
     for place in 0..own.len() {
-        alike &= own[place] == word[place];
+        alike &= word[place] == own[place];
     }
     alike
 }

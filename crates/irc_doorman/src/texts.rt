@@ -30,7 +30,8 @@ pub(crate) fn bad_password_text(server: &ServerName) -> Text
 }
 
 fn reply<'x>(server: &'x [u8], number: &'x [u8], words: &'x [&'x [u8]], last: &'x [u8]) -> Text
-    ensures { result.items ≡ text (reply_parts server.now number.now (words_now words.now) last.now) }
+    ensures { result.items
+        ≡ text (reply_parts server.now number.now (words_now words.now) last.now) }
 {
     write_message(&Parts {
         prefix: Prefix::Name(server),

@@ -1,3 +1,4 @@
 mod ClosedLines
+mod MotdFound
 mod SettingUp
 mod Ready

@@ -15,6 +15,7 @@ use Rattle.irc_endings.specs.declared.fault.Stop.{Stop}
 use Rattle.irc_endings.specs.declared.fault.Stop.TheVariants.{Usage, BadScript, BadConfiguration}
 use Rattle.irc_endings.specs.declared.fault.Stop.TheVariants.{Failed}
 use Rattle.ircd.specs.declared.setup.Setup.{Setup}
+use Rattle.ircd.specs.Loops.Manners.{FindsManner}
 use Rattle.ircd.specs.Loops.Turns.{IsOfFile, TakesTurns}
 use Rattle.std.specs.declared.net.socket_addr.SocketAddr.{SocketAddr}
 use Rattle.ircd.specs.ClosedDoors.{SaysClosed, SaysFault}
@@ -23,6 +24,7 @@ use Rattle.ircd.specs.Serving.{Serves, ServesFile, ServesText, listening_of}
 use Rattle.ircd.specs.Serving.{front_server, Front, IsAnswered}
 use Rattle.ircd.specs.Serving.IsCutShort.{printing, unopened, unprinted}
 use Rattle.ircd.specs.Serving.IsFailed.{failed_opening, failed_serving}
+use Rattle.ircd.specs.Serving.{bad_motd, bad_text}
 use Rattle.ircd.specs.Serving.IsUnopened.{clients_closed, links_closed, untold}
 use Rattle.irc_sockets.specs.Listening.{IsFaultOf}
 use Rattle.irc_sockets.specs.declared.listen_fault.ListenFault.{ListenFault}
@@ -75,7 +77,7 @@ turns_stopped is_after old turns new said said_after r runs =
 -- a text sets nothing up
 stopped_by : (text : List ℕ) (turns : ℕ) (stop : Stop) (held said : Option (List ℕ))
     → IsReadSetup text (Err stop) → ServesText text turns (Err stop) held held said said
-stopped_by text turns BadConfiguration held said bad = (bad, refl, refl)
+stopped_by text turns BadConfiguration held said bad = (bad_text bad, refl, refl)
 stopped_by text turns Failed held said bad = unprinted refl refl
 stopped_by text turns Usage held said bad = absurd bad
 stopped_by text turns (BadScript line) held said bad = absurd bad
@@ -87,6 +89,25 @@ text_refused text turns (Ok _) stop held said bad failed = absurd failed
 text_refused text turns (Err e) stop held said bad failed =
     subst (λ s. ServesText text turns (Err s) held held said said) (sym failed)
     (stopped_by text turns stop held said bad)
+
+-- a message of the day is named, and is not read
+unread_by : (text : List ℕ) (turns : ℕ) (stop : Stop) (setup : Setup)
+    (held said : Option (List ℕ)) → IsTextOf text setup → FindsManner setup (Err stop)
+    → ServesText text turns (Err stop) held held said said
+unread_by text turns BadConfiguration setup held said is named =
+    (bad_motd setup is named, refl, refl)
+unread_by text turns Failed setup held said is named = unprinted refl refl
+unread_by text turns Usage setup held said is named = absurd named
+unread_by text turns (BadScript line) setup held said is named = absurd named
+
+pub manner_unread : (text : List ℕ) (turns : ℕ) (r : Result (Unit {0}) Stop) (stop : Stop)
+    (setup : Setup) (held said : Option (List ℕ)) → IsTextOf text setup
+    → FindsManner setup (Err stop) → IsErrAnd r (λ e. e ≡ stop)
+    → ServesText text turns r held held said said
+manner_unread text turns (Ok _) stop setup held said is none failed = absurd failed
+manner_unread text turns (Err e) stop setup held said is none failed =
+    subst (λ s. ServesText text turns (Err s) held held said said) (sym failed)
+    (unread_by text turns stop setup held said is none)
 
 -- nobody listens
 pub unopened_by : (setup : Setup) (fault : ListenFault) (said said_after : Option (List ℕ))

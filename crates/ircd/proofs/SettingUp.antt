@@ -40,13 +40,17 @@ lent_text : {Z : Type 0} (lent : Option (Bor (String Z)))
 lent_text None = refl
 lent_text (Some text) = refl
 
+pub lent_is : {Z : Type 0} (lent : Option (Bor (String Z))) (setting : Option (String Z))
+    → option_copied lent ≡ setting
+    → option_map (λ text. string_bytes text.now) lent ≡ option_map string_bytes setting
+lent_is lent setting is = lent_text lent ∙ ap (λ some. option_map string_bytes some) is
+
 pub found_in : {Z : Type 0} (lent : Option (Bor (String Z))) (setting : Option (String Z))
     (found : Result (Option SocketAddr) Stop) → option_copied lent ≡ setting
     → FindsOptional (option_map (λ text. string_bytes text.now) lent) found
     → FindsOptional (option_map string_bytes setting) found
 found_in lent setting found is finds =
-    subst (λ text. FindsOptional text found)
-    (lent_text lent ∙ ap (λ some. option_map string_bytes some) is) finds
+    subst (λ text. FindsOptional text found) (lent_is lent setting is) finds
 
 -- there is a text, and it is no address
 pub record NotFound (text : Option (List ℕ)) (stop : Stop) : Type 0 where

@@ -3,6 +3,7 @@ use Rattle.std.specs.Prelude.{◌≡◌, ℕ, Bool, true, false, Option, Some, N
 use Rattle.std.specs.Prelude.{[], ◌∷◌, map, option_map, is_some, string_bytes, ⊤}
 use Rattle.std.specs.Prelude.{◌&&◌, if◌then◌else◌}
 use Rattle.std.specs.List.{filter_map}
+use Rattle.std.specs.Str.Lines.{lines}
 use Rattle.std.specs.Io.KnownBytes.{Appends}
 use Rattle.std.specs.Net.Grammar.{IsSocketText}
 use Rattle.std.specs.declared.net.socket_addr.SocketAddr.{SocketAddr}
@@ -21,9 +22,12 @@ use Rattle.irc_engine.specs.EngineView.{EngineViewOf}
 use Rattle.irc_engine.specs.Telling.{ToldTurnsBy}
 use Rattle.irc_journal.specs.Saying.{AreSomeSaid}
 use Rattle.irc_door.specs.declared.door.Door.{Door}
-use Rattle.irc_door.specs.declared.door.Programs.{Programs}
-use Rattle.irc_door.specs.declared.door.Programs.TheVariants.{Off, Usual}
+use Rattle.irc_door.specs.declared.manner.Manner.{Manner}
+use Rattle.irc_door.specs.declared.manner.Programs.{Programs}
+use Rattle.irc_door.specs.declared.manner.Programs.TheVariants.{Off, Usual}
+use Rattle.irc_door.specs.declared.motd.Motd.{Motd}
 use Rattle.irc_door.specs.Doors.{dues_by, server_behind, IsTurned}
+use Rattle.irc_door.specs.MessagesOfTheDay.{has_room, is_message, lines_of}
 use Rattle.irc_doorman.specs.declared.asks.Asks.{Asks}
 use Rattle.irc_doorman.specs.declared.doorman.Doorman.{Doorman}
 use Rattle.irc_doorman.specs.Doormen.{server_behind as server_kept, watched_by, IsAdmitted}
@@ -135,7 +139,8 @@ pub data CannotBeAsked (settings : Settings) : Type 0 where
 -- where no client comes in, from where proxies come, whom it calls, without the word by which
 -- pieces are counted too, and again when, by its own name too, how many connections an address may
 -- have, how many of these for links without a name and for how long, to which pace of lines clients
--- keep, what these are told beside the profile and asked, and how much may wait is theirs.
+-- keep, what these are told beside the profile and asked, which file holds the message of the day,
+-- and how much may wait is theirs.
 pub record IsSetUp (settings : Settings) (setup : Setup) : Type 0 where
   pub config : Config
   pub configures : Configures settings config
@@ -154,6 +159,7 @@ pub record IsSetUp (settings : Settings) (setup : Setup) : Type 0 where
   pub register_within : setup.register_within ≡ settings.register_within
   pub pace : setup.pace ≡ pace_set settings.pace
   pub programs : setup.programs ≡ programs_set settings.programs
+  pub motd : option_map string_bytes setup.motd ≡ option_map string_bytes settings.motd
   pub asks : AreAsksOf settings setup.asks
   pub client_room : setup.client_room ≡ settings.client_room
   pub link_room : setup.link_room ≡ settings.link_room
@@ -198,6 +204,36 @@ IsReadSetup text (Err Failed) = ⊤
 IsReadSetup text (Err Usage) = ⊥
 IsReadSetup text (Err (BadScript line)) = ⊥
 
+-- ---- how clients are spoken to
+
+-- a message of the day that was read of some text, and an outbox has room for it
+pub record IsMotd (room : ℕ) (motd : Motd) : Type 0 where
+  pub text : List ℕ
+  pub is_one : is_message text ≡ true
+  pub is_of : lines_of motd ≡ lines text
+  pub fits : has_room room (lines_of motd) ≡ true
+
+-- there is one just where a file is named; what this holds no clause can tell
+abbrev pub HasMotd : (file : Option (List ℕ)) → (room : ℕ) → Option Motd → Type 0
+HasMotd None room None = ⊤
+HasMotd (Some file) room (Some motd) = IsMotd room motd
+HasMotd None room (Some motd) = ⊥
+HasMotd (Some file) room None = ⊥
+
+abbrev pub motd_file : Setup → Option (List ℕ)
+motd_file setup = option_map string_bytes setup.motd
+
+pub record IsMannerOf (setup : Setup) (manner : Manner) : Type 0 where
+  pub programs : manner.programs ≡ setup.programs
+  pub motd : HasMotd (motd_file setup) setup.client_room manner.motd
+
+-- why nothing is served by a text: it is bad; or it names a file that cannot be read, or holds no
+-- message of the day, or one without room
+pub data IsUnserved (text : List ℕ) : Type 0 where
+  bad_text : IsBadText text → IsUnserved text
+  bad_motd : (setup : Setup) → IsTextOf text setup → is_some (motd_file setup) ≡ true
+      → IsUnserved text
+
 -- where a server that was set up is to listen, who is let in there, what the connections of an
 -- address may be, and how much may wait for one
 abbrev pub listening_of : Setup → Listening
@@ -229,13 +265,13 @@ IsAnswered = IsTurned (IsAdmitted server_of IsLayered)
 abbrev pub front_dues : Dues Front
 front_dues = dues_by (watched_by server_of IsLayered never_due)
 
--- An engine is open: it has served nobody, its door says to clients what was set up, in front of a
+-- An engine is open: it has served nobody, its door speaks to clients as was set up, in front of a
 -- doorman who asks what was, in front of a layer around the server that was, an outbox has room for
 -- as much as was set up, and its wire listens where that was, and calls whom that was to call,
 -- again by that spread.
 pub record IsOpened (setup : Setup) (engine : EngineViewOf MioWire Front) : Type 0 where
   pub door : Front
-  pub programs : door.programs ≡ setup.programs
+  pub manner : IsMannerOf setup door.manner
   pub layer : Layer
   pub asks : IsNewDoorman layer setup.asks door.machine
   pub is_around : IsAround setup.server setup.plain.items layer
@@ -300,13 +336,13 @@ pub record IsServed (text : List ℕ) (turns : ℕ)
   pub taken : FrontTurns (λ wire calls. ⊤) first errors turns last errors_after
 
 -- How serving by a text ends: anything was printed or said only where the text sets up a server; a
--- bad text is refused, and nothing printed or said.
+-- bad text is refused, and so is one whose message of the day is, and nothing printed or said.
 abbrev pub ServesText : List ℕ → ℕ → Result (Unit {0}) Stop
     → (printed printed_after errors errors_after : Option (List ℕ)) → Type 0
 ServesText text turns (Ok _) printed printed_after errors errors_after =
     IsServed text turns printed printed_after errors errors_after
 ServesText text turns (Err BadConfiguration) printed printed_after errors errors_after =
-    IsBadText text × (printed_after ≡ printed) × (errors_after ≡ errors)
+    IsUnserved text × (printed_after ≡ printed) × (errors_after ≡ errors)
 ServesText text turns (Err Failed) printed printed_after errors errors_after =
     IsCutShort text printed printed_after errors errors_after
 ServesText text turns (Err Usage) printed printed_after errors errors_after = ⊥

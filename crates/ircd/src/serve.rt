@@ -1,15 +1,16 @@
 //! `ircd serve`: a server on TCP sockets.
-ghost use Rattle.std.specs.Prelude.{◌≡◌, IfErr};
+ghost use Rattle.std.specs.Prelude.{◌≡◌, IfErr, option_map, string_bytes};
 ghost use Rattle.irc_endings.specs.declared.fault.Stop.TheVariants.{Failed};
 ghost use Rattle.irc_engine.specs.Knowing.{HasNobody};
 ghost use Rattle.irc_engine.specs.EngineView.{engine_view};
 ghost use Rattle.ircd.specs.ClosedDoors.{SaysFault};
 ghost use Rattle.ircd.specs.Loops.Turns.{IsOfFile, IsRun, Opens, TakesTurns};
-ghost use Rattle.ircd.specs.Serving.{ServesFile, ServesText};
+ghost use Rattle.ircd.specs.Loops.Manners.{FindsManner, FindsMotd, IsMotdIn, ReadsMotd};
+ghost use Rattle.ircd.specs.Serving.{IsMannerOf, ServesFile, ServesText};
 
 use crate::closed_door::say_closed;
 use crate::setup::{Setup, read_setup};
-use irc_door::Door;
+use irc_door::{Door, Manner, Motd, MotdFault};
 use irc_doorman::Doorman;
 use irc_endings::{Stop, say_ready};
 use irc_engine::Engine;
@@ -30,8 +31,8 @@ type Front = Door<Doorman<Layer>>;
 /// lets nobody listen.
 ///
 /// # Errors
-/// - [`Stop::BadConfiguration`] where the file cannot be read, or is no configuration. Then nothing
-///   is printed.
+/// - [`Stop::BadConfiguration`] where the file cannot be read, or is no configuration, or names a
+///   message of the day that cannot be read, is none, or has no room. Then nothing is printed.
 /// - [`Stop::Failed`] where the system lets nobody listen, where `ready` cannot be written, and
 ///   behind a turn that is not done: the device failed, or memory ran out.
 pub fn serve<T: AllocGlobal + Files + Net, O: Write, E: Write>(
@@ -60,7 +61,7 @@ fn read_file<T: AllocGlobal + Files>(rt: &T, file: &str) -> Result<String, Stop>
 }
 
 /// Serves as a text says.
-fn serve_text<T: AllocGlobal + Net, O: Write, E: Write>(
+fn serve_text<T: AllocGlobal + Files + Net, O: Write, E: Write>(
     rt: &T,
     text: &str,
     turns: u64,
@@ -71,8 +72,58 @@ fn serve_text<T: AllocGlobal + Net, O: Write, E: Write>(
         (E.contents errors.old) (E.contents errors.new) }
 {
     let setup = read_setup(rt.alloc(), text)?;
-    let mut engine = open(rt, rt.alloc(), setup, errors)?;
+    let manner = manner_of(rt, &setup)?;
+    let mut engine = open(rt, rt.alloc(), setup, manner, errors)?;
     run_engine(&mut engine, turns, output, errors)
+}
+
+/// How clients are spoken to.
+fn manner_of<T: AllocGlobal + Files>(rt: &T, setup: &Setup) -> Result<Manner, Stop>
+    ensures { FindsManner setup.now result }
+{
+    Ok(Manner {
+        programs: setup.programs,
+        motd: optional_motd(rt, setup.motd.as_ref(), setup.client_room)?,
+    })
+}
+
+/// The message of the day that stands in a file, if one is named.
+fn optional_motd<T: AllocGlobal + Files>(
+    rt: &T,
+    file: Option<&String>,
+    room: usize,
+) -> Result<Option<Motd>, Stop>
+    ensures { FindsMotd (option_map (λ file. string_bytes file.now) file.entry) room result }
+{
+    match file {
+        Some(file) => Ok(Some(read_motd(rt, file.as_str(), room)?)),
+        None => Ok(None),
+    }
+}
+
+/// The message of the day that stands in a file; an outbox of so many bytes has to have room for
+/// it.
+fn read_motd<T: AllocGlobal + Files>(rt: &T, file: &str, room: usize) -> Result<Motd, Stop>
+    ensures { ReadsMotd room result }
+{
+    let text = read_file(rt, file)?;
+    let motd = motd_in(rt.alloc(), text.as_str())?;
+    if motd.fits(room) {
+        Ok(motd)
+    } else {
+        Err(Stop::BadConfiguration)
+    }
+}
+
+/// The message of the day that a text is.
+fn motd_in(alloc: Global, text: &str) -> Result<Motd, Stop>
+    ensures { IsMotdIn text.now result }
+{
+    match Motd::read(alloc, text) {
+        Ok(motd) => Ok(motd),
+        Err(MotdFault::Bad) => Err(Stop::BadConfiguration),
+        Err(MotdFault::Memory) => Err(Stop::Failed),
+    }
 }
 
 /// An engine that listens, and has called whom it is to call. An address at which the system lets
@@ -81,9 +132,11 @@ fn open<T: Net, E: Write>(
     net: &T,
     alloc: Global,
     setup: Setup,
+    manner: Manner,
     errors: &mut E,
 ) -> Result<Engine<MioWire, Front>, Stop>
-    requires { HasNobody setup.server }
+    requires nobody { HasNobody setup.server }
+    requires manner { IsMannerOf setup manner }
     ensures { Opens setup result (E.contents errors.old) (E.contents errors.new) }
 {
     let listening = Listening {
@@ -105,7 +158,7 @@ fn open<T: Net, E: Write>(
     };
     let layer = Layer::new(alloc, setup.server, setup.plain);
     let doorman = Doorman::new(alloc, layer, setup.asks);
-    let door = Door::new(alloc, doorman, setup.programs);
+    let door = Door::new(alloc, doorman, manner);
     let engine = Engine::new(alloc, door, wire, setup.client_room, setup.link_room)?;
     Ok(engine)
 }

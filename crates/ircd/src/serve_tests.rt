@@ -40,7 +40,7 @@ const READY: &[u8] = b"ready\n";
 /// The file that each configuration is written to.
 const FILE: &str = "serve_tests.toml";
 
-static ROWS: [ServeRow; 43] = [
+static ROWS: [ServeRow; 48] = [
     ServeRow {
         room: ROOM,
         more: "",
@@ -393,6 +393,48 @@ static ROWS: [ServeRow; 43] = [
     ServeRow {
         room: ROOM,
         more: "burst_lines = 10\n",
+        words: &["serve", FILE, "0"],
+        status: 3,
+        output: b"",
+        errors: BAD,
+    },
+    // a message of the day, as whose text the configuration itself may stand
+    ServeRow {
+        room: ROOM,
+        more: "motd = \"serve_tests.toml\"\n",
+        words: &["serve", FILE, "3"],
+        status: 0,
+        output: READY,
+        errors: b"",
+    },
+    // one that is not there, a folder, one without room, and one that is no text
+    ServeRow {
+        room: ROOM,
+        more: "motd = \"no_such_file.txt\"\n",
+        words: &["serve", FILE, "0"],
+        status: 3,
+        output: b"",
+        errors: BAD,
+    },
+    ServeRow {
+        room: ROOM,
+        more: "motd = \"/\"\n",
+        words: &["serve", FILE, "0"],
+        status: 3,
+        output: b"",
+        errors: BAD,
+    },
+    ServeRow {
+        room: "client_room = 2048\n",
+        more: "motd = \"serve_tests.toml\"\n",
+        words: &["serve", FILE, "0"],
+        status: 3,
+        output: b"",
+        errors: BAD,
+    },
+    ServeRow {
+        room: ROOM,
+        more: "motd = true\n",
         words: &["serve", FILE, "0"],
         status: 3,
         output: b"",

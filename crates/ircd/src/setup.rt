@@ -55,6 +55,8 @@ pub struct Setup {
     pub pace: Option<LinesPace>,
     /// What clients are told beside the profile.
     pub programs: Programs,
+    /// The file whose text they are told as the message of the day, if there is one.
+    pub motd: Option<String>,
     /// What clients are asked.
     pub asks: Asks,
     /// How many bytes may wait for a client.
@@ -95,9 +97,21 @@ fn set_up(alloc: Global, settings: &Settings) -> Result<Setup, Stop>
         register_within: settings.register_within,
         pace: pace(settings),
         programs: programs(settings.programs),
+        motd: optional_text(alloc, settings.motd.as_ref())?,
         client_room: settings.client_room,
         link_room: settings.link_room,
     })
+}
+
+/// The same text, if there is one.
+fn optional_text(alloc: Global, text: Option<&String>) -> Result<Option<String>, AllocError>
+    ensures { IfOk result (λ own. option_map string_bytes own
+        ≡ option_map (λ text. string_bytes text.now) text.entry) }
+{
+    match text {
+        Some(text) => Ok(Some(String::from_str(alloc, text.as_str())?)),
+        None => Ok(None),
+    }
 }
 
 /// What clients are told beside the profile.

@@ -1,4 +1,5 @@
-use Rattle.irc_door.proofs.Examples.{letters_are_whole, others_go, rows_are_turned, version_is_one}
+use Rattle.irc_door.proofs.Examples.{letters_are_whole, messages_are_told, others_go}
+use Rattle.irc_door.proofs.Examples.{rows_are_turned, texts_are_messages, version_is_one}
 use Rattle.irc_door.proofs.laws.texts_said.Goals as goal
 
 pub returns-clause-rows : goal.returns-clause-rows
@@ -12,3 +13,9 @@ returns-clause-letters c = letters_are_whole
 
 pub returns-clause-version : goal.returns-clause-version
 returns-clause-version c = version_is_one
+
+pub returns-clause-message : goal.returns-clause-message
+returns-clause-message c = messages_are_told
+
+pub returns-clause-texts : goal.returns-clause-texts
+returns-clause-texts c = texts_are_messages

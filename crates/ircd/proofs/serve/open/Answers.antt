@@ -1,7 +1,9 @@
 use Rattle.std.proofs.Common.{refl, subst, sym}
+use Rattle.irc_door.specs.declared.manner.Manner.{Manner}
 use Rattle.irc_layer.specs.declared.layer.Layer.{Layer}
 use Rattle.irc_doorman.specs.declared.doorman.Doorman.{Doorman}
 use Rattle.irc_doorman.specs.Doormen.{IsNewDoorman}
+use Rattle.ircd.specs.Serving.{IsMannerOf}
 use Rattle.ircd.proofs.Ready.{unopened_by}
 use Rattle.ircd.proofs.serve.open.Goals as goal
 
@@ -15,7 +17,8 @@ pub returns : goal.returns
 returns g c = (
   record {
     door = c.new-door.result;
-    programs = c.new-door.ensures.programs;
+    manner = subst (λ (manner : Manner). IsMannerOf c.args.setup manner)
+        (sym c.new-door.ensures.manner) c.requires.manner;
     layer = c.new-layer.result;
     asks = subst (λ (doorman : Doorman Layer).
         IsNewDoorman c.new-layer.result c.args.setup.asks doorman)

@@ -1,9 +1,9 @@
-use Rattle.std.proofs.Common.{◌≡◌, Ok, Err, map, refl, string_bytes, subst}
+use Rattle.std.proofs.Common.{◌≡◌, ◌∙◌, Ok, Err, map, refl, string_bytes, subst}
 use Rattle.std.specs.Net.Grammar.{IsSocketText}
 use Rattle.irc_turns.specs.Ranges.{AreRanges}
 use Rattle.ircd.specs.Serving.{plain_names, AreCalled}
 use Rattle.ircd.specs.Loops.SettingUp.{FindsCallees, FindsRanges}
-use Rattle.ircd.proofs.SettingUp.{calls_refused, deny_refused, found_in, links_refused}
+use Rattle.ircd.proofs.SettingUp.{calls_refused, deny_refused, found_in, lent_is, links_refused}
 use Rattle.ircd.proofs.SettingUp.{proxies_refused, server_refused}
 use Rattle.ircd.proofs.setup.set_up.Goals as goal
 
@@ -72,6 +72,8 @@ returns c = record {
   register_within = refl;
   pace = c.pace.ensures;
   programs = c.programs.ensures;
+  motd = c.in_ok-optional_text.ensures
+      ∙ lent_is c.as_ref-2.result c.args.settings.now.motd c.as_ref-2.ensures.value;
   asks = c.in_ok-asks.ensures;
   client_room = refl;
   link_room = refl;

@@ -8,7 +8,7 @@ pub returns-in_err-handle-clause-handled : goal.returns-in_err-handle-clause-han
 returns-in_err-handle-clause-handled g c =
     handled_refused g.M.Machine.handles c.args.self.now (record {
       machine = c.handle.new.self;
-      programs = c.args.self.now.programs;
+      manner = c.args.self.now.manner;
       held = c.handle.new.out;
       alloc = c.args.self.now.alloc;
     }) c.args.event.now c.args.out.now.outs c.clear.new.self.outs c.handle.new.out.outs
@@ -20,7 +20,7 @@ pub returns-in_err-put_said-clause-handled : goal.returns-in_err-put_said-clause
 returns-in_err-put_said-clause-handled g c =
     handled_unsaid g.M.Machine.handles c.args.self.now (record {
       machine = c.handle.new.self;
-      programs = c.args.self.now.programs;
+      manner = c.args.self.now.manner;
       held = c.put_said.new.held;
       alloc = c.args.self.now.alloc;
     }) c.args.event.now c.args.out.now.outs c.clear.new.self.outs c.handle.new.out.outs
@@ -36,7 +36,7 @@ pub returns-clause-handled : goal.returns-clause-handled
 returns-clause-handled g c =
     handled_said g.M.Machine.handles c.args.self.now (record {
       machine = c.handle.new.self;
-      programs = c.args.self.now.programs;
+      manner = c.args.self.now.manner;
       held = c.put_said.new.held;
       alloc = c.args.self.now.alloc;
     }) c.args.event.now c.args.out.now.outs c.clear.new.self.outs c.handle.new.out.outs
@@ -45,7 +45,7 @@ returns-clause-handled g c =
 
 pub returns-clause-connected : goal.returns-clause-connected
 returns-clause-connected g c =
-    connected_said c.args.event.now c.args.self.now.programs
+    connected_said c.args.event.now c.args.self.now.manner
     (server_behind g.M.Machine.server_of c.args.self.now)
     (g.M.Machine.server_of c.handle.new.self) c.clear.new.self.outs c.handle.new.out.outs
     c.args.out.now.outs c.put_said.new.out.outs (ap (λ b. b.outs) c.clear.ensures)
