@@ -139,9 +139,21 @@ fn cap_other(hearer: &Hearer<'_>, word: &[u8]) -> Text
     ensures { result.items ≡ text (cap_other (told_of hearer.now) word.now) }
 {
     if word.is_empty() {
-        said_to(hearer.server, b"461", hearer.nick, b"CAP", b"Not enough parameters")
+        said_to(
+            hearer.server,
+            b"461",
+            hearer.nick,
+            b"CAP",
+            b"Not enough parameters",
+        )
     } else {
-        said_to(hearer.server, b"410", hearer.nick, word, b"Invalid CAP command")
+        said_to(
+            hearer.server,
+            b"410",
+            hearer.nick,
+            word,
+            b"Invalid CAP command",
+        )
     }
 }
 
