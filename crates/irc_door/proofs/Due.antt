@@ -1,5 +1,6 @@
 -- What is due of a door, by what is due of its machine.
-use Rattle.std.proofs.Common.{◌≡◌, ◌≢◌, ℕ, true, Option, None, Result, Ok, Err, IsErrAnd, List, [], ◌++◌}
+use Rattle.std.proofs.Common.{◌≡◌, ◌≢◌, ℕ, true, Option, None, Result, Ok, Err, IsErrAnd, List, []}
+use Rattle.std.proofs.Common.{◌++◌}
 use Rattle.std.proofs.Common.{length, refl, sym, ◌∙◌, ap, append-nil, subst}
 use Rattle.irc_batch.specs.Batches.{Sent}
 use Rattle.irc_server.specs.declared.event.ServerFault.{ServerFault}

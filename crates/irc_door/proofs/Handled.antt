@@ -14,7 +14,8 @@ use Rattle.irc_door.specs.Doors.{refuses, said_by, says, wants_memory, IsTurned}
 module _ {M : Type 0} (handles : Handles M) (old new : Door M) (event : Event)
     (before held outs after : List Sent) where
   pub handled_said : held ≡ [] → handles old.machine event held (Ok tt) new.machine outs
-      → new.manner ≡ old.manner → after ≡ before ++ said_by old.manner (asked_of old.manner.programs event) outs
+      → new.manner ≡ old.manner → after ≡ before ++ said_by old.manner (asked_of
+      old.manner.programs event) outs
       → IsTurned handles old event before (Ok tt) new after
   handled_said none done same said =
       says outs (subst (λ h. handles old.machine event h (Ok tt) new.machine outs) none done) same

@@ -1,5 +1,6 @@
 -- Where nothing is asked for, what is put out is what the machine puts out.
-use Rattle.std.proofs.Common.{◌≡◌, ℕ, true, false, is_some, ◌&&◌, Option, Some, None, Result, Ok, Err, OnOk}
+use Rattle.std.proofs.Common.{◌≡◌, ℕ, true, false, is_some, ◌&&◌, Option, Some, None, Result, Ok}
+use Rattle.std.proofs.Common.{Err, OnOk}
 use Rattle.std.proofs.Common.{List, [], ◌∷◌, ◌++◌, is_none, option_map, refl, sym, ◌∙◌, ap}
 use Rattle.irc_batch.specs.Batches.{Sent, end_of, end_of_link, line_on, line_to}
 use Rattle.irc_door.specs.declared.manner.Manner.{Manner}

@@ -38,7 +38,8 @@ module _ (test : Sent → Bool) (none : (conn : ℕ) (line : List ℕ) → test 
     pub said_kept : (manner : Manner) (asked : Option Asked) (outs : List Sent)
         → list_any test (said_by manner asked outs) ≡ list_any test outs
     said_kept manner asked [] = refl
-    said_kept manner asked (sent ∷ outs) = list_any-append test (said manner asked sent) (said_by manner asked outs)
+    said_kept manner asked (sent ∷ outs) =
+        list_any-append test (said manner asked sent) (said_by manner asked outs)
         ∙ (λ i. one_kept manner asked sent i || said_kept manner asked outs i)
         ∙ sym (list_any-append test (sent ∷ []) outs)
 
@@ -52,8 +53,8 @@ link_said manner asked outs link = said_kept (ends_link link) (λ c line. refl) 
 
 -- ---- by an event
 
-said_of : (event : Event) (manner : Manner) (asked : Option Asked) (was new : View) (outs : List Sent)
-    → AreConnectedBy was (read_event_of event) outs new
+said_of : (event : Event) (manner : Manner) (asked : Option Asked) (was new : View)
+    (outs : List Sent) → AreConnectedBy was (read_event_of event) outs new
     → AreConnectedBy was (read_event_of event) (said_by manner asked outs) new
 said_of event manner asked was new outs by = record {
   clients = λ q. by.clients q
@@ -67,7 +68,8 @@ said_of event manner asked was new outs by = record {
   links_were_there = λ q ended. by.links_were_there q (sym (link_said manner asked outs q) ∙ ended);
 }
 
-pub connected_said : (event : Event) (manner : Manner) (asked : Option Asked) (server after : Option View)
+pub connected_said : (event : Event) (manner : Manner) (asked : Option Asked) (server after :
+    Option View)
     (held outs before end : List Sent) → held ≡ [] → IsConnectedBy server event held after outs
     → end ≡ before ++ said_by manner asked outs → IsConnectedBy server event before after end
 connected_said event manner asked server after held outs before end none by is = record {
@@ -113,5 +115,6 @@ still_said manner asked server after held outs before end none by is = record {
 }
 
 -- nothing is said of nothing
-pub said_nothing : (manner : Manner) (asked : Option Asked) (outs : List Sent) → outs ≡ [] → said_by manner asked outs ≡ []
+pub said_nothing : (manner : Manner) (asked : Option Asked) (outs : List Sent) → outs ≡ []
+    → said_by manner asked outs ≡ []
 said_nothing manner asked outs none = ap (said_by manner asked) none

@@ -1,7 +1,7 @@
 -- What is written to a client in place of a text, by the manner of a door: in place of what refuses
--- a line CAP of that client an answer (`Capabilities.antt`); in place of 422 the message of the day,
--- where there is one (`MessagesOfTheDay.antt`); any other text as programs expect it, where that is
--- asked for (`Turning.antt`); else the text itself.
+-- a line CAP of it an answer (`Capabilities.antt`); in place of 422 the message of the day, where
+-- there is one (`MessagesOfTheDay.antt`); any other text as programs expect it, where that is asked
+-- for (`Turning.antt`); else the text itself.
 use Rattle.std.specs.Prelude.{ℕ, Bool, true, false, ◌&&◌, Option, Some, None, List, [], ◌∷◌}
 use Rattle.std.specs.Prelude.{is_none, nat_eq, if◌then◌else◌}
 use Rattle.irc_door.specs.Capabilities.{cap_answers, refused_told, Asked}

@@ -96,8 +96,8 @@ fn say_to(
     out: &mut Batch,
 ) -> Result<(), AllocError>
     requires fits { length line.now ≤ max_text }
-    ensures { OnOk result (out.new.outs ≡ out.old.outs
-        ++ to_client conn (written_to manner.now (option_map asked_now asked.entry) conn line.now)) }
+    ensures { OnOk result (out.new.outs ≡ out.old.outs ++ to_client conn
+        (written_to manner.now (option_map asked_now asked.entry) conn line.now)) }
 {
     match asked {
         Some(asked) if asked.conn == conn => answer_or_say(manner, &asked, line, out),

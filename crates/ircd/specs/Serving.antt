@@ -285,9 +285,9 @@ negotiations_of Off = NothingWaits
 negotiations_of Usual = Awaited
 
 -- An engine is open: it has served nobody, its door speaks to clients as was set up, in front of a
--- doorman who asks what was, in front of a hold and a layer around the server that was, an outbox has
--- room for as much as was set up, and its wire listens where that was, and calls whom that was to
--- call, again by that spread.
+-- doorman who asks what was, in front of a hold and a layer around the server that was, an outbox
+-- has room for as much as was set up, and its wire listens where that was, and calls whom that was
+-- to call, again by that spread.
 pub record IsOpened (setup : Setup) (engine : EngineViewOf MioWire Front) : Type 0 where
   pub door : Front
   pub manner : IsMannerOf setup door.manner
