@@ -73,7 +73,7 @@ is_there server conn = option_map_or (λ view. has_client view conn) server fals
 
 -- what becomes of a line of a client
 abbrev pub line_fate : Bool → Option Guest → List ℕ → Fate
-line_fate true (Some guest) line = fate_of line guest.entry
+line_fate true (Some guest) line = fate_of line guest.standing
 line_fate true None line = Passes
 line_fate false guest line = Passes
 

@@ -6,11 +6,11 @@ use Rattle.irc_line.specs.Messages.{text}
 use Rattle.irc_numerics.specs.declared.replies.Reply.TheVariants.{NeedMoreParams}
 use Rattle.irc_numerics.specs.Replies.{reply_text}
 use Rattle.irc_doorman.specs.declared.asks.Asks.{Asks}
-use Rattle.irc_doorman.specs.declared.guest.Entry.{Entry}
-use Rattle.irc_doorman.specs.declared.guest.Entry.TheVariants.{Free, Asked, Given}
+use Rattle.irc_doorman.specs.declared.guest.Standing.{Standing}
+use Rattle.irc_doorman.specs.declared.guest.Standing.TheVariants.{Free, Asked, Given}
 use Rattle.irc_doorman.specs.declared.guest.Fate.{Fate}
 use Rattle.irc_doorman.specs.declared.guest.Fate.TheVariants.{Passes, LacksWord, TurnedAway}
-use Rattle.irc_doorman.specs.Guests.{entry_after, fate_of}
+use Rattle.irc_doorman.specs.Guests.{standing_after, fate_of}
 use Rattle.irc_doorman.specs.Texts.{bad_password, closing, lacking, ping}
 
 pub record TextsAreSo : Type 0 where
@@ -25,9 +25,9 @@ pub record TextsAreSo : Type 0 where
 abbrev sesame : Asks
 sesame = record { server = codes "a.net"; password = Some (codes "sesame"); ping_after = None }
 
-abbrev pub Judged : Entry → List ℕ → Entry → Fate → Type 0
-Judged entry line after fate =
-    (entry_after sesame line entry ≡ after) × (fate_of line entry ≡ fate)
+abbrev pub Judged : Standing → List ℕ → Standing → Fate → Type 0
+Judged standing line after fate =
+    (standing_after sesame line standing ≡ after) × (fate_of line standing ≡ fate)
 
 pub record LinesAreJudged : Type 0 where
   pub right : Judged Asked (codes "PASS sesame") Given Passes

@@ -20,8 +20,8 @@ use Rattle.irc_line.specs.Reading.{read_of}
 use Rattle.irc_link_words.specs.Words.{is_command}
 use Rattle.irc_moments.specs.Moments.{later}
 use Rattle.irc_doorman.specs.declared.asks.Asks.{Asks}
-use Rattle.irc_doorman.specs.declared.guest.Entry.{Entry}
-use Rattle.irc_doorman.specs.declared.guest.Entry.TheVariants.{Free, Asked, Given}
+use Rattle.irc_doorman.specs.declared.guest.Standing.{Standing}
+use Rattle.irc_doorman.specs.declared.guest.Standing.TheVariants.{Free, Asked, Given}
 use Rattle.irc_doorman.specs.declared.guest.Fate.{Fate}
 use Rattle.irc_doorman.specs.declared.guest.Fate.TheVariants.{Passes, LacksWord, TurnedAway}
 use Rattle.irc_doorman.specs.declared.guest.Guest.{Guest}
@@ -42,46 +42,46 @@ begins_registration message =
     is_command (codes "NICK") message.command || is_command (codes "USER") message.command
 
 -- behind a PASS with these words
-abbrev pub entry_given : Asks → List (List ℕ) → Entry → Entry
-entry_given asks [] entry = entry
-entry_given asks (word ∷ more) entry = if is_right asks.password word then Given else Asked
+abbrev pub standing_given : Asks → List (List ℕ) → Standing → Standing
+standing_given asks [] standing = standing
+standing_given asks (word ∷ more) standing = if is_right asks.password word then Given else Asked
 
-abbrev pub password_behind : Asks → Parsed → Entry → Entry
-password_behind asks message entry = entry_given asks message.params entry
+abbrev pub password_behind : Asks → Parsed → Standing → Standing
+password_behind asks message standing = standing_given asks message.params standing
 
 -- behind a line of who is asked for a password
-abbrev pub entry_behind : Asks → Parsed → Entry → Entry
-entry_behind asks message entry =
-    if is_command (codes "PASS") message.command then password_behind asks message entry
-    else (if begins_registration message then Free else entry)
+abbrev pub standing_behind : Asks → Parsed → Standing → Standing
+standing_behind asks message standing =
+    if is_command (codes "PASS") message.command then password_behind asks message standing
+    else (if begins_registration message then Free else standing)
 
-abbrev pub entry_read : Asks → Result Parsed LineFault → Entry → Entry
-entry_read asks (Ok message) entry = entry_behind asks message entry
-entry_read asks (Err fault) entry = entry
+abbrev pub standing_read : Asks → Result Parsed LineFault → Standing → Standing
+standing_read asks (Ok message) standing = standing_behind asks message standing
+standing_read asks (Err fault) standing = standing
 
-abbrev pub entry_after : Asks → List ℕ → Entry → Entry
-entry_after asks line Free = Free
-entry_after asks line Asked = entry_read asks (read_of line) Asked
-entry_after asks line Given = entry_read asks (read_of line) Given
+abbrev pub standing_after : Asks → List ℕ → Standing → Standing
+standing_after asks line Free = Free
+standing_after asks line Asked = standing_read asks (read_of line) Asked
+standing_after asks line Given = standing_read asks (read_of line) Given
 
-abbrev pub lacks_password : Entry → Bool
+abbrev pub lacks_password : Standing → Bool
 lacks_password Asked = true
 lacks_password Given = false
 lacks_password Free = false
 
 -- what becomes of a line of who is asked for a password
-abbrev pub fate_behind : Parsed → Entry → Fate
-fate_behind message entry =
+abbrev pub fate_behind : Parsed → Standing → Fate
+fate_behind message standing =
     if is_command (codes "PASS") message.command && nat_eq (length message.params) 0
     then LacksWord
-    else (if begins_registration message && lacks_password entry then TurnedAway else Passes)
+    else (if begins_registration message && lacks_password standing then TurnedAway else Passes)
 
-abbrev pub fate_read : Result Parsed LineFault → Entry → Fate
-fate_read (Ok message) entry = fate_behind message entry
-fate_read (Err fault) entry = Passes
+abbrev pub fate_read : Result Parsed LineFault → Standing → Fate
+fate_read (Ok message) standing = fate_behind message standing
+fate_read (Err fault) standing = Passes
 
 -- what becomes of a line
-abbrev pub fate_of : List ℕ → Entry → Fate
+abbrev pub fate_of : List ℕ → Standing → Fate
 fate_of line Free = Passes
 fate_of line Asked = fate_read (read_of line) Asked
 fate_of line Given = fate_read (read_of line) Given
@@ -91,7 +91,7 @@ fate_of line Given = fate_read (read_of line) Given
 -- one that comes at a moment
 abbrev pub new_guest : Asks → ℕ → Guest
 new_guest asks moment = record {
-  entry = if is_some asks.password then Asked else Free;
+  standing = if is_some asks.password then Asked else Free;
   since = moment;
   is_asked = false;
 }
@@ -99,7 +99,7 @@ new_guest asks moment = record {
 -- one that has said a line at a moment
 abbrev pub guest_hearing : Asks → List ℕ → ℕ → Guest → Guest
 guest_hearing asks line moment guest =
-    record { entry = entry_after asks line guest.entry; since = moment; is_asked = false }
+    record { standing = standing_after asks line guest.standing; since = moment; is_asked = false }
 
 -- one that is asked at a moment whether it is there
 abbrev pub guest_asked : ℕ → Guest → Guest

@@ -256,7 +256,7 @@ fn fate_of(guest: Option<&Guest>, line: &[u8]) -> Fate
     ensures { result ≡ line_fate true (option_copied guest.entry) line.now }
 {
     match guest {
-        Some(guest) => guest.entry.fate(line),
+        Some(guest) => guest.standing.fate(line),
         None => Fate::Passes,
     }
 }

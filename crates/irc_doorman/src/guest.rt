@@ -1,7 +1,7 @@
 //! What is known of a client.
 ghost use Rattle.std.specs.Prelude.{◌≡◌};
 ghost use Rattle.irc_line.specs.MessageViews.{parsed};
-ghost use Rattle.irc_doorman.specs.Guests.{begins_registration, entry_after, entry_behind};
+ghost use Rattle.irc_doorman.specs.Guests.{begins_registration, standing_after, standing_behind};
 ghost use Rattle.irc_doorman.specs.Guests.{fate_behind, fate_of, guest_hearing, is_silent};
 ghost use Rattle.irc_doorman.specs.Guests.{lacks_password, new_guest, password_behind};
 
@@ -12,7 +12,7 @@ use irc_moments::Moment;
 
 /// Where a client stands with the password.
 #[derive(Clone, Copy, Drop)]
-pub(crate) enum Entry {
+pub(crate) enum Standing {
     /// It is asked for none, or has given it.
     Free,
     /// It is asked for it, and has given none, or a wrong one.
@@ -36,7 +36,7 @@ pub(crate) enum Fate {
 #[derive(Clone, Copy, Drop)]
 pub(crate) struct Guest {
     /// Where it stands with the password.
-    pub entry: Entry,
+    pub standing: Standing,
     /// When it said something last, or was asked whether it is there.
     pub since: Moment,
     /// Whether it was asked, and has said nothing since.
@@ -48,13 +48,13 @@ impl Guest {
     pub fn new(asks: &Asks, now: Moment) -> Self
         ensures { result ≡ new_guest asks.now now }
     {
-        let entry = if asks.password.is_some() {
-            Entry::Asked
+        let standing = if asks.password.is_some() {
+            Standing::Asked
         } else {
-            Entry::Free
+            Standing::Free
         };
         Guest {
-            entry,
+            standing,
             since: now,
             is_asked: false,
         }
@@ -65,7 +65,7 @@ impl Guest {
         ensures { result ≡ guest_hearing asks.now line.now now self }
     {
         Guest {
-            entry: self.entry.after(asks, line),
+            standing: self.standing.after(asks, line),
             since: now,
             is_asked: false,
         }
@@ -79,14 +79,14 @@ impl Guest {
     }
 }
 
-impl Entry {
+impl Standing {
     /// Where it stands behind a line.
     fn after(self, asks: &Asks, line: &[u8]) -> Self
-        ensures { result ≡ entry_after asks.now line.now self }
+        ensures { result ≡ standing_after asks.now line.now self }
     {
         match self {
-            Entry::Free => self,
-            Entry::Asked | Entry::Given => match parse(line) {
+            Standing::Free => self,
+            Standing::Asked | Standing::Given => match parse(line) {
                 Ok(message) => self.behind(asks, &message),
                 Err(_) => self,
             },
@@ -94,12 +94,12 @@ impl Entry {
     }
 
     fn behind(self, asks: &Asks, message: &Message<'_>) -> Self
-        ensures { result ≡ entry_behind asks.now (parsed message.now) self }
+        ensures { result ≡ standing_behind asks.now (parsed message.now) self }
     {
         if is_command(b"PASS", message.command) {
             self.behind_password(asks, message)
         } else if begins_registration(message) {
-            Entry::Free
+            Standing::Free
         } else {
             self
         }
@@ -109,8 +109,8 @@ impl Entry {
         ensures { result ≡ password_behind asks.now (parsed message.now) self }
     {
         match message.params.as_slice().first() {
-            Some(word) if asks.is_password(word) => Entry::Given,
-            Some(_) => Entry::Asked,
+            Some(word) if asks.is_password(word) => Standing::Given,
+            Some(_) => Standing::Asked,
             None => self,
         }
     }
@@ -120,8 +120,8 @@ impl Entry {
         ensures { result ≡ fate_of line.now self }
     {
         match self {
-            Entry::Free => Fate::Passes,
-            Entry::Asked | Entry::Given => match parse(line) {
+            Standing::Free => Fate::Passes,
+            Standing::Asked | Standing::Given => match parse(line) {
                 Ok(message) => self.fate_behind(&message),
                 Err(_) => Fate::Passes,
             },
@@ -145,8 +145,8 @@ impl Entry {
         ensures { result ≡ lacks_password self }
     {
         match self {
-            Entry::Asked => true,
-            Entry::Given | Entry::Free => false,
+            Standing::Asked => true,
+            Standing::Given | Standing::Free => false,
         }
     }
 }

@@ -162,8 +162,8 @@ impl MioWire {
         let talkers = &self.sockets.talkers;
         let has_more = self.round.has_more || self.newcomers.asks();
         let is_busy = talkers.waiting() > 0 || self.has_arrivals() || has_more;
-        let has_guests = self.proxied.are_awaited();
-        let is_awaited = !talkers.holds_nobody() || self.calls.retries.are_waiting() || has_guests;
+        let has_awaited = self.proxied.are_awaited();
+        let is_awaited = !talkers.holds_nobody() || self.calls.retries.are_waiting() || has_awaited;
         wait_for(is_busy, is_awaited)
     }
 

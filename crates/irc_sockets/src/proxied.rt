@@ -18,7 +18,7 @@ const READS: usize = 1024;
 
 /// A connection of a proxy.
 #[derive(Drop)]
-struct Guest {
+struct Awaited {
     stream: TcpStream,
     header: AwaitedHeader,
     /// Whether more may have come of it.
@@ -39,7 +39,7 @@ enum Look {
 #[derive(Drop)]
 pub(crate) struct Proxied {
     alloc: Global,
-    guests: Vec<Option<Guest>, Global>,
+    awaited: Vec<Option<Awaited>, Global>,
     /// How many are there.
     count: usize,
     /// Whether some may be looked at, and how many in this round.
@@ -53,7 +53,7 @@ impl Proxied {
     {
         Proxied {
             alloc,
-            guests: Vec::new(alloc),
+            awaited: Vec::new(alloc),
             count: 0,
             arrivals: Arrivals::new(),
         }
@@ -74,12 +74,12 @@ impl Proxied {
         if !may_await_one_more(self.count) {
             return;
         }
-        let guest = Guest {
+        let one = Awaited {
             stream,
             header: AwaitedHeader::new(self.alloc, now),
             may_have: true,
         };
-        let Some(place) = self.put(guest) else {
+        let Some(place) = self.put(one) else {
             return;
         };
         self.count = self.count.saturating_add(1);
@@ -90,16 +90,16 @@ impl Proxied {
     }
 
     /// Puts one at the first place that is free.
-    fn put(&mut self, guest: Guest) -> Option<usize>
+    fn put(&mut self, one: Awaited) -> Option<usize>
         ensures { self.new.count ≡ self.old.count }
     {
-        let free = self.guests.iter().position(|guest| guest.is_none());
+        let free = self.awaited.iter().position(|one| one.is_none());
         let Some(place) = free else {
-            let place = self.guests.len();
-            self.guests.push(Some(guest)).ok()?;
+            let place = self.awaited.len();
+            self.awaited.push(Some(one)).ok()?;
             return Some(place);
         };
-        *self.guests.get_mut(place)? = Some(guest);
+        *self.awaited.get_mut(place)? = Some(one);
         Some(place)
     }
 
@@ -111,25 +111,25 @@ impl Proxied {
         if token >= FIRST_SOCKET {
             return None;
         }
-        let guest = self.guests.get_mut(place)?.as_mut()?;
+        let one = self.awaited.get_mut(place)?.as_mut()?;
         registry
-            .register(&mut guest.stream, Token(token), Interest::READABLE)
+            .register(&mut one.stream, Token(token), Interest::READABLE)
             .ok()
     }
 
     /// One leaves its place.
-    fn take(&mut self, place: usize) -> Option<Guest>
+    fn take(&mut self, place: usize) -> Option<Awaited>
         ensures { self.new.count ≤ self.old.count }
     {
-        let guest = self.guests.get_mut(place)?.take()?;
+        let one = self.awaited.get_mut(place)?.take()?;
         self.count = self.count.saturating_sub(1);
-        Some(guest)
+        Some(one)
     }
 
     /// More may have come of a header. So somebody has come.
     pub fn knock(&mut self, place: usize) -> bool {
-        if let Some(Some(guest)) = self.guests.get_mut(place) {
-            guest.may_have = true;
+        if let Some(Some(one)) = self.awaited.get_mut(place) {
+            one.may_have = true;
             self.arrivals.knock();
         }
         true
@@ -137,7 +137,7 @@ impl Proxied {
 
     /// Those whose time is over at this moment are closed.
     pub fn end_times(&mut self, now: Moment) {
-        for place in 0..self.guests.len() {
+        for place in 0..self.awaited.len() {
             if self.is_over(place, now) {
                 let _gone = self.take(place);
             }
@@ -145,8 +145,8 @@ impl Proxied {
     }
 
     fn is_over(&self, place: usize, now: Moment) -> bool {
-        match self.guests.get(place) {
-            Some(Some(guest)) => guest.header.is_over(now),
+        match self.awaited.get(place) {
+            Some(Some(one)) => one.header.is_over(now),
             _ => false,
         }
     }
@@ -175,32 +175,32 @@ impl Proxied {
 
     /// The place of the first of whom more may have come.
     fn knocking(&self) -> Option<usize> {
-        self.guests.iter().position(may_have)
+        self.awaited.iter().position(may_have)
     }
 
     /// Reads on what has come of a header.
     fn look(&mut self, place: usize) -> Look {
-        match self.guests.get_mut(place) {
-            Some(Some(guest)) => look_at(guest),
+        match self.awaited.get_mut(place) {
+            Some(Some(one)) => look_at(one),
             _ => Look::Gone,
         }
     }
 }
 
 /// Whether more may have come of somebody's header.
-fn may_have(guest: &Option<Guest>) -> bool {
-    match guest {
-        Some(guest) => guest.may_have,
+fn may_have(one: &Option<Awaited>) -> bool {
+    match one {
+        Some(one) => one.may_have,
         None => false,
     }
 }
 
 /// Reads on what has come of a header, and no byte behind it.
-fn look_at(guest: &mut Guest) -> Look {
-    guest.may_have = false;
+fn look_at(one: &mut Awaited) -> Look {
+    one.may_have = false;
     for _read in 0..READS {
-        let look = match guest.header.read() {
-            ProxyHeader::Wants(count) => read_more(guest, count),
+        let look = match one.header.read() {
+            ProxyHeader::Wants(count) => read_more(one, count),
             ProxyHeader::Names(address) => Some(Look::Named(address)),
             ProxyHeader::Bad | ProxyHeader::Unnamed => Some(Look::Gone),
         };
@@ -212,12 +212,12 @@ fn look_at(guest: &mut Guest) -> Look {
 }
 
 /// Reads so many bytes more, or fewer. Tells what has come of it where it is not to be read on.
-fn read_more(guest: &mut Guest, count: usize) -> Option<Look> {
+fn read_more(one: &mut Awaited, count: usize) -> Option<Look> {
     let mut buffer = [0; AT_ONCE];
     let most = count.min(AT_ONCE);
-    match guest.stream.read(&mut buffer[..most]) {
+    match one.stream.read(&mut buffer[..most]) {
         Ok(0) => Some(Look::Gone),
-        Ok(count) => match guest.header.add(&buffer[..count]) {
+        Ok(count) => match one.header.add(&buffer[..count]) {
             Ok(()) => None,
             Err(_) => Some(Look::Gone),
         },
