@@ -157,6 +157,34 @@ def messages_are_right(program):
     return all(result)
 
 
+# what a program says that negotiates, and each line that it is told, without the key and with it, before what all are told who register
+CAP = (
+    ("CAP LS 302", [":a.net 451 * :You have not registered"], [":a.net CAP * LS :"]),
+    ("NICK al", [], []),
+    ("USER u 0 * :Al", None, []),
+    ("CAP REQ :a b", [":a.net 421 al CAP :Unknown command"], [":a.net CAP al NAK :a b"]),
+    ("CAP", [":a.net 421 al CAP :Unknown command"], [":a.net 461 al CAP :Not enough parameters"]),
+    ("CAP FOO", [":a.net 421 al CAP :Unknown command"], [":a.net 410 al FOO :Invalid CAP command"]),
+    ("CAP END", [":a.net 421 al CAP :Unknown command"], None),
+    ("CAP END", [":a.net 421 al CAP :Unknown command"], []),
+    ("cap list", [":a.net 421 al cap :Unknown command"], [":a.net CAP al LIST :"]),
+)
+
+
+def negotiation_is_right(program, port, programs):
+    """Where None stands the client registers."""
+    with daemon(program, port, programs), contextlib.closing(socket.create_connection(("127.0.0.1", port))) as client:
+        seen, result = b"", []
+        for number, (line, *wanted) in enumerate(CAP):
+            client.sendall(f"{line}\r\nPING {number}\r\n".encode())
+            while b"PONG a.net :%d\r\n" % number not in seen:
+                seen += client.recv(65536)
+            lines, seen = seen.decode().split("\r\n")[:-2], b""
+            is_so = any(" 001 " in line for line in lines) if wanted[programs] is None else lines == wanted[programs]
+            result.append(told(f"programs {programs}: {line}", is_so))
+        return all(result)
+
+
 def is_utf8(text):
     try:
         return bool(text.decode())
@@ -213,7 +241,7 @@ def asks(program, port, programs, command):
 
 def main(program):
     program = pathlib.Path(program).resolve()
-    result = [check(program, 16720 + programs, programs) for check in (welcome_is_right, lines_are_right) for programs in (False, True)]
+    result = [check(program, 16720 + programs, programs) for check in (welcome_is_right, lines_are_right, negotiation_is_right) for programs in (False, True)]
     result.append(messages_are_right(program))
     if importlib.util.find_spec("pydle"):
         print("     pydle without the key:", *asks(program, 16722, False, [sys.executable, "-c", PYDLE]))

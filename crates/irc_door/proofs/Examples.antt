@@ -8,6 +8,7 @@ use Rattle.irc_line.specs.Messages.{line_text}
 use Rattle.irc_line.specs.Reading.{read_of}
 use Rattle.irc_numerics.specs.Replies.{table}
 use Rattle.irc_door.specs.Letters.{whole_letters}
+use Rattle.irc_door.specs.Examples.{CapabilitiesAreNone}
 use Rattle.irc_door.specs.Examples.{LettersAreWhole, MessagesAreTold, OthersGo, RowsAreTurned}
 use Rattle.irc_door.specs.Examples.{TextsAreMessages, VersionIsOne}
 
@@ -41,4 +42,18 @@ texts_are_messages = record {
   nul = refl;
   room = refl;
   just_room = refl;
+}
+
+pub capabilities_are_none : CapabilitiesAreNone
+unfolding read_of line_text cut whole_letters
+capabilities_are_none = record {
+  lists = refl;
+  lists_set = refl;
+  takes_none = refl;
+  ends = refl;
+  other = refl;
+  alone = refl;
+  of_another = refl;
+  not_refused = refl;
+  another_line = refl;
 }

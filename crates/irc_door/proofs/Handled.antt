@@ -8,12 +8,14 @@ use Rattle.irc_server.specs.declared.event.ServerFault.{ServerFault}
 use Rattle.irc_server.specs.declared.event.ServerFault.TheVariants.{Memory}
 use Rattle.irc_engine.specs.Machines.{Handles, IsRefusal, runs_out_now}
 use Rattle.irc_door.specs.declared.door.Door.{Door}
+use Rattle.irc_door.specs.Capabilities.{asked_of}
 use Rattle.irc_door.specs.Doors.{refuses, said_by, says, wants_memory, IsTurned}
 
 module _ {M : Type 0} (handles : Handles M) (old new : Door M) (event : Event)
     (before held outs after : List Sent) where
   pub handled_said : held ≡ [] → handles old.machine event held (Ok tt) new.machine outs
-      → new.manner ≡ old.manner → after ≡ before ++ said_by old.manner outs
+      → new.manner ≡ old.manner → after ≡ before ++ said_by old.manner (asked_of
+      old.manner.programs event) outs
       → IsTurned handles old event before (Ok tt) new after
   handled_said none done same said =
       says outs (subst (λ h. handles old.machine event h (Ok tt) new.machine outs) none done) same
@@ -35,9 +37,3 @@ module _ {M : Type 0} (handles : Handles M) (old new : Door M) (event : Event)
   handled_unsaid (Err f) failed =
       subst (λ e. IsTurned handles old event before (Err e) new after) (sym failed)
       (wants_memory Memory refl)
-
-pub memory_owed : (server : Option View) (event : Event) (r : Result (Unit {0}) ServerFault)
-    → IsErrAnd r (λ fault. fault ≡ Memory) → IfErr r (IsRefusal server event)
-memory_owed server event (Ok _) failed = tt
-memory_owed server event (Err fault) failed =
-    subst (λ f. IsRefusal server event f) (sym failed) runs_out_now

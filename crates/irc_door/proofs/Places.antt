@@ -1,5 +1,6 @@
 -- What is at a place of a batch is said, and what follows it is still to be.
-use Rattle.std.proofs.Common.{◌≡◌, ◌<◌, ◌+◌, ◌++◌, ℕ, List, ◌∷◌, Some, None, drop, length, ◌∙◌, ap}
+use Rattle.std.proofs.Common.{◌≡◌, ◌<◌, ◌+◌, ◌++◌, ℕ, List, ◌∷◌, Option, Some, None, drop, length}
+use Rattle.std.proofs.Common.{◌∙◌, ap}
 use Rattle.std.proofs.Common.{append_assoc, arith, get_or, suc, sym, Result, Ok, Err, OnOk}
 use Rattle.std.specs.List.{slice_get}
 use Rattle.std.proofs.Math.Seq.{drop-cons}
@@ -7,9 +8,10 @@ use Rattle.std.proofs.lemmas.Option.{get_or_from_slice_get, none-some, slice_get
 use Rattle.std.proofs.lemmas.Option.{slice_get-get_or}
 use Rattle.irc_batch.specs.Batches.{Sent, end_of}
 use Rattle.irc_door.specs.declared.manner.Manner.{Manner}
+use Rattle.irc_door.specs.Capabilities.{Asked}
 use Rattle.irc_door.specs.Doors.{said, said_by}
 
-module _ (manner : Manner) (outs : List Sent) (place : ℕ) where
+module _ (manner : Manner) (asked : Option Asked) (outs : List Sent) (place : ℕ) where
   -- what is there, and what follows it
   left : (sent : Sent) → slice_get outs place ≡ Some sent
       → drop place outs ≡ sent ∷ drop (place + 1) outs
@@ -21,13 +23,13 @@ module _ (manner : Manner) (outs : List Sent) (place : ℕ) where
       ∙ ap (λ n. sent ∷ drop n outs) next
 
   pub said_on : {E : Type 0} (r : Result (Unit {0}) E) (sent : Sent) (own before : List Sent)
-      → slice_get outs place ≡ Some sent → OnOk r (own ≡ before ++ said manner sent)
-      → OnOk r (own ++ said_by manner (drop (place + 1) outs)
-      ≡ before ++ said_by manner (drop place outs))
+      → slice_get outs place ≡ Some sent → OnOk r (own ≡ before ++ said manner asked sent)
+      → OnOk r (own ++ said_by manner asked (drop (place + 1) outs)
+      ≡ before ++ said_by manner asked (drop place outs))
   said_on (Ok _) sent own before there put =
-      ap (λ o. o ++ said_by manner (drop (place + 1) outs)) put
-      ∙ append_assoc before (said manner sent) (said_by manner (drop (place + 1) outs))
-      ∙ ap (λ rest. before ++ said_by manner rest) (sym (left sent there))
+      ap (λ o. o ++ said_by manner asked (drop (place + 1) outs)) put
+      ∙ append_assoc before (said manner asked sent) (said_by manner asked (drop (place + 1) outs))
+      ∙ ap (λ rest. before ++ said_by manner asked rest) (sym (left sent there))
   said_on (Err e) sent own before there put = tt
 
   -- something is there

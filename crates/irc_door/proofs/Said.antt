@@ -14,8 +14,9 @@ use Rattle.irc_server.specs.ReadEvents.{read_event_of}
 use Rattle.irc_engine.specs.Machines.{AreConnectedBy, AreStillConnected, IsConnectedBy}
 use Rattle.irc_engine.specs.Machines.{IsStillConnected}
 use Rattle.irc_door.specs.declared.manner.Manner.{Manner}
+use Rattle.irc_door.specs.Capabilities.{Asked}
 use Rattle.irc_door.specs.Doors.{said, said_by, to_client}
-use Rattle.irc_door.specs.Manners.{written_by}
+use Rattle.irc_door.specs.Manners.{written_to}
 
 -- of a test that no line to a client passes
 module _ (test : Sent → Bool) (none : (conn : ℕ) (line : List ℕ) → test (line_to conn line) ≡ false)
@@ -26,57 +27,59 @@ module _ (test : Sent → Bool) (none : (conn : ℕ) (line : List ℕ) → test 
         ap (λ b. b || list_any test (to_client conn lines)) (none conn line)
         ∙ lines_fail conn lines
 
-    one_kept : (manner : Manner) (sent : Sent)
-        → list_any test (said manner sent) ≡ list_any test (sent ∷ [])
-    one_kept manner (line_to conn line) = lines_fail conn (written_by manner line)
+    one_kept : (manner : Manner) (asked : Option Asked) (sent : Sent)
+        → list_any test (said manner asked sent) ≡ list_any test (sent ∷ [])
+    one_kept manner asked (line_to conn line) = lines_fail conn (written_to manner asked conn line)
         ∙ sym (ap (λ b. b || false) (none conn line))
-    one_kept manner (end_of conn) = refl
-    one_kept manner (line_on link line) = refl
-    one_kept manner (end_of_link link reason) = refl
+    one_kept manner asked (end_of conn) = refl
+    one_kept manner asked (line_on link line) = refl
+    one_kept manner asked (end_of_link link reason) = refl
 
-    pub said_kept : (manner : Manner) (outs : List Sent)
-        → list_any test (said_by manner outs) ≡ list_any test outs
-    said_kept manner [] = refl
-    said_kept manner (sent ∷ outs) = list_any-append test (said manner sent) (said_by manner outs)
-        ∙ (λ i. one_kept manner sent i || said_kept manner outs i)
+    pub said_kept : (manner : Manner) (asked : Option Asked) (outs : List Sent)
+        → list_any test (said_by manner asked outs) ≡ list_any test outs
+    said_kept manner asked [] = refl
+    said_kept manner asked (sent ∷ outs) =
+        list_any-append test (said manner asked sent) (said_by manner asked outs)
+        ∙ (λ i. one_kept manner asked sent i || said_kept manner asked outs i)
         ∙ sym (list_any-append test (sent ∷ []) outs)
 
-client_said : (manner : Manner) (outs : List Sent) (conn : ℕ)
-    → is_client_ended conn (said_by manner outs) ≡ is_client_ended conn outs
-client_said manner outs conn = said_kept (ends_client conn) (λ c line. refl) manner outs
+client_said : (manner : Manner) (asked : Option Asked) (outs : List Sent) (conn : ℕ)
+    → is_client_ended conn (said_by manner asked outs) ≡ is_client_ended conn outs
+client_said manner asked outs conn = said_kept (ends_client conn) (λ c line. refl) manner asked outs
 
-link_said : (manner : Manner) (outs : List Sent) (link : ℕ)
-    → is_link_ended link (said_by manner outs) ≡ is_link_ended link outs
-link_said manner outs link = said_kept (ends_link link) (λ c line. refl) manner outs
+link_said : (manner : Manner) (asked : Option Asked) (outs : List Sent) (link : ℕ)
+    → is_link_ended link (said_by manner asked outs) ≡ is_link_ended link outs
+link_said manner asked outs link = said_kept (ends_link link) (λ c line. refl) manner asked outs
 
 -- ---- by an event
 
-said_of : (event : Event) (manner : Manner) (was new : View) (outs : List Sent)
-    → AreConnectedBy was (read_event_of event) outs new
-    → AreConnectedBy was (read_event_of event) (said_by manner outs) new
-said_of event manner was new outs by = record {
+said_of : (event : Event) (manner : Manner) (asked : Option Asked) (was new : View)
+    (outs : List Sent) → AreConnectedBy was (read_event_of event) outs new
+    → AreConnectedBy was (read_event_of event) (said_by manner asked outs) new
+said_of event manner asked was new outs by = record {
   clients = λ q. by.clients q
       ∙ ap (is_there_after (has_client was q) (client_comes q (read_event_of event))
-      (client_goes q (read_event_of event))) (sym (client_said manner outs q));
+      (client_goes q (read_event_of event))) (sym (client_said manner asked outs q));
   links = λ q. by.links q
       ∙ ap (is_there_after (has_link was q) (link_comes q (read_event_of event))
-      (link_goes q (read_event_of event))) (sym (link_said manner outs q));
+      (link_goes q (read_event_of event))) (sym (link_said manner asked outs q));
   clients_were_there = λ q ended. by.clients_were_there q
-      (sym (client_said manner outs q) ∙ ended);
-  links_were_there = λ q ended. by.links_were_there q (sym (link_said manner outs q) ∙ ended);
+      (sym (client_said manner asked outs q) ∙ ended);
+  links_were_there = λ q ended. by.links_were_there q (sym (link_said manner asked outs q) ∙ ended);
 }
 
-pub connected_said : (event : Event) (manner : Manner) (server after : Option View)
+pub connected_said : (event : Event) (manner : Manner) (asked : Option Asked) (server after :
+    Option View)
     (held outs before end : List Sent) → held ≡ [] → IsConnectedBy server event held after outs
-    → end ≡ before ++ said_by manner outs → IsConnectedBy server event before after end
-connected_said event manner server after held outs before end none by is = record {
-  outs = said_by manner outs;
+    → end ≡ before ++ said_by manner asked outs → IsConnectedBy server event before after end
+connected_said event manner asked server after held outs before end none by is = record {
+  outs = said_by manner asked outs;
   after_is = is;
   connected = λ behind is_behind.
       let was = by.connected behind is_behind in (
         was.0,
         was.1,
-        said_of event manner was.0 behind outs
+        said_of event manner asked was.0 behind outs
             (subst (λ x. AreConnectedBy was.0 (read_event_of event) x behind)
             (sym (by.after_is ∙ ap (λ h. h ++ by.outs) none)) was.2),
       );
@@ -84,33 +87,34 @@ connected_said event manner server after held outs before end none by is = recor
 
 -- ---- by what is due
 
-still_of : (manner : Manner) (was new : View) (outs : List Sent)
-    → AreStillConnected was outs new → AreStillConnected was (said_by manner outs) new
-still_of manner was new outs by = record {
+still_of : (manner : Manner) (asked : Option Asked) (was new : View) (outs : List Sent)
+    → AreStillConnected was outs new → AreStillConnected was (said_by manner asked outs) new
+still_of manner asked was new outs by = record {
   clients = λ q. by.clients q
-      ∙ ap (λ t. has_client was q && not t) (sym (client_said manner outs q));
-  links = λ q. by.links q ∙ ap (λ t. has_link was q && not t) (sym (link_said manner outs q));
+      ∙ ap (λ t. has_client was q && not t) (sym (client_said manner asked outs q));
+  links = λ q. by.links q ∙ ap (λ t. has_link was q && not t) (sym (link_said manner asked outs q));
   clients_were_there = λ q ended. by.clients_were_there q
-      (sym (client_said manner outs q) ∙ ended);
-  links_were_there = λ q ended. by.links_were_there q (sym (link_said manner outs q) ∙ ended);
+      (sym (client_said manner asked outs q) ∙ ended);
+  links_were_there = λ q ended. by.links_were_there q (sym (link_said manner asked outs q) ∙ ended);
 }
 
-pub still_said : (manner : Manner) (server after : Option View)
+pub still_said : (manner : Manner) (asked : Option Asked) (server after : Option View)
     (held outs before end : List Sent) → held ≡ [] → IsStillConnected server held after outs
-    → end ≡ before ++ said_by manner outs → IsStillConnected server before after end
-still_said manner server after held outs before end none by is = record {
-  outs = said_by manner outs;
+    → end ≡ before ++ said_by manner asked outs → IsStillConnected server before after end
+still_said manner asked server after held outs before end none by is = record {
+  outs = said_by manner asked outs;
   after_is = is;
   connected = λ behind is_behind.
       let was = by.connected behind is_behind in (
         was.0,
         was.1,
-        still_of manner was.0 behind outs
+        still_of manner asked was.0 behind outs
             (subst (λ x. AreStillConnected was.0 x behind)
             (sym (by.after_is ∙ ap (λ h. h ++ by.outs) none)) was.2),
       );
 }
 
 -- nothing is said of nothing
-pub said_nothing : (manner : Manner) (outs : List Sent) → outs ≡ [] → said_by manner outs ≡ []
-said_nothing manner outs none = ap (said_by manner) none
+pub said_nothing : (manner : Manner) (asked : Option Asked) (outs : List Sent) → outs ≡ []
+    → said_by manner asked outs ≡ []
+said_nothing manner asked outs none = ap (said_by manner asked) none

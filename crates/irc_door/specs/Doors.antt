@@ -2,7 +2,7 @@
 -- it comes, one for one, and what it says to clients is written as the door's manner has it
 -- (`Manners.antt`), in order; what it puts out on links goes as it is, and so does whom it closes.
 -- Where nothing is asked for, all goes as it is (`IsPlainly`).
-use Rattle.std.specs.Prelude.{◌≡◌, ℕ, true, Option, Result, Ok, Err, List, [], ◌∷◌, ◌++◌, map}
+use Rattle.std.specs.Prelude.{◌≡◌, ℕ, true, Option, None, Result, Ok, Err, List, [], ◌∷◌, ◌++◌, map}
 use Rattle.std.specs.List.{flat_map}
 use Rattle.irc_batch.specs.Batches.{Sent, end_of, end_of_link, line_on, line_to}
 use Rattle.irc_stage.specs.View.{View}
@@ -11,24 +11,26 @@ use Rattle.irc_server.specs.declared.event.ServerFault.{ServerFault}
 use Rattle.irc_engine.specs.Machines.{is_out_of_memory, due_by, never_due, Dues, Handles}
 use Rattle.irc_door.specs.declared.door.Door.{Door}
 use Rattle.irc_door.specs.declared.manner.Manner.{Manner}
-use Rattle.irc_door.specs.Manners.{is_plain, written_by}
+use Rattle.irc_door.specs.Capabilities.{asked_of, Asked}
+use Rattle.irc_door.specs.Manners.{is_plain, written_to}
 
 abbrev pub to_client : ℕ → List (List ℕ) → List Sent
 to_client conn = map (line_to conn)
 
-abbrev pub said : Manner → Sent → List Sent
-said manner (line_to conn line) = to_client conn (written_by manner line)
-said manner (end_of conn) = end_of conn ∷ []
-said manner (line_on link line) = line_on link line ∷ []
-said manner (end_of_link link reason) = end_of_link link reason ∷ []
+abbrev pub said : Manner → Option Asked → Sent → List Sent
+said manner asked (line_to conn line) = to_client conn (written_to manner asked conn line)
+said manner asked (end_of conn) = end_of conn ∷ []
+said manner asked (line_on link line) = line_on link line ∷ []
+said manner asked (end_of_link link reason) = end_of_link link reason ∷ []
 
-abbrev pub said_by : Manner → List Sent → List Sent
-said_by manner = flat_map (said manner)
+-- by a line CAP, or by another event
+abbrev pub said_by : Manner → Option Asked → List Sent → List Sent
+said_by manner asked = flat_map (said manner asked)
 
 -- where nothing is asked for, what is put out is what the machine puts out
 abbrev pub IsPlainly : Type 0
-IsPlainly = (manner : Manner) → is_plain manner ≡ true → (outs : List Sent)
-    → said_by manner outs ≡ outs
+IsPlainly = (manner : Manner) → is_plain manner ≡ true → (event : Event) (outs : List Sent)
+    → said_by manner (asked_of manner.programs event) outs ≡ outs
 
 -- the server behind a door is its machine's
 abbrev pub server_behind : {M : Type 0} → (M → Option View) → Door M → Option View
@@ -40,7 +42,7 @@ pub data IsTurned {M : Type 0} (handles : Handles M) (old : Door M) (event : Eve
     (before : List Sent) : Result (Unit {0}) ServerFault → Door M → List Sent → Type 0 where
   says : {new : Door M} {after : List Sent} (outs : List Sent)
       → handles old.machine event [] (Ok tt) new.machine outs → new.manner ≡ old.manner
-      → after ≡ before ++ said_by old.manner outs
+      → after ≡ before ++ said_by old.manner (asked_of old.manner.programs event) outs
       → IsTurned handles old event before (Ok tt) new after
   refuses : {new : Door M} {after : List Sent} (fault : ServerFault) (outs : List Sent)
       → handles old.machine event [] (Err fault) new.machine outs → new.manner ≡ old.manner
@@ -55,7 +57,7 @@ pub data IsSaid {M : Type 0}
     : Result (Unit {0}) ServerFault → Door M → List Sent → Type 0 where
   says_due : {new : Door M} {after : List Sent} (outs : List Sent)
       → is_due old.machine moment [] (Ok tt) new.machine outs → new.manner ≡ old.manner
-      → after ≡ before ++ said_by old.manner outs
+      → after ≡ before ++ said_by old.manner None outs
       → IsSaid is_due old moment before (Ok tt) new after
   has_no_memory : {new : Door M} {after : List Sent} (fault : ServerFault)
       → is_out_of_memory fault ≡ true → IsSaid is_due old moment before (Err fault) new after

@@ -1,13 +1,15 @@
--- Texts for clients, and what is written: the examples of `Turning.antt`, `Letters.antt` and
--- `MessagesOfTheDay.antt`.
-use Rattle.std.specs.Prelude.{◌≡◌, ℕ, true, false, List, [], ◌∷◌, ◌++◌, codes}
+-- Texts for clients, and what is written: the examples of `Turning.antt`, `Letters.antt`,
+-- `MessagesOfTheDay.antt` and `Capabilities.antt`.
+use Rattle.std.specs.Prelude.{◌≡◌, ℕ, true, false, Option, None, List, [], ◌∷◌, ◌++◌, codes}
 use Rattle.std.specs.Str.Lines.{lines}
 use Rattle.irc_line.specs.Bytes.{crlf}
+use Rattle.irc_line.specs.Reading.{read_of}
 use Rattle.irc_numerics.specs.declared.replies.Reply.TheVariants.{MyInfo}
 use Rattle.irc_numerics.specs.Replies.{bare, table}
 use Rattle.irc_door.specs.declared.manner.Programs.TheVariants.{Off, Usual}
 use Rattle.irc_door.specs.Letters.{whole_letters}
-use Rattle.irc_door.specs.Manners.{written_or_told}
+use Rattle.irc_door.specs.Capabilities.{asked_read, Asked}
+use Rattle.irc_door.specs.Manners.{written_or_told, written_to}
 use Rattle.irc_door.specs.MessagesOfTheDay.{has_room, is_message, missing_told}
 use Rattle.irc_door.specs.Turning.{turned, written}
 
@@ -80,3 +82,37 @@ pub record TextsAreMessages : Type 0 where
   pub nul : is_message (0 ∷ []) ≡ false
   pub room : has_room 2259 (codes "Hi" ∷ [] ∷ []) ≡ false
   pub just_room : has_room 2260 (codes "Hi" ∷ [] ∷ []) ≡ true
+
+-- client 1 of a door as programs expect it is answered
+abbrev pub answered_to : Option Asked → List ℕ → List (List ℕ)
+answered_to asked line =
+    written_to (record { programs = Usual; motd = None }) asked 1 (line ++ crlf)
+
+abbrev pub at_hand : (conn : ℕ) → List ℕ → Option Asked
+at_hand conn line = asked_read conn (read_of line)
+
+-- before registration, and behind it
+abbrev pub unregistered : List ℕ
+unregistered = codes ":a.net 451 * :You have not registered"
+
+abbrev pub unknown : List ℕ
+unknown = codes ":a.net 421 al CAP :Unknown command"
+
+pub record CapabilitiesAreNone : Type 0 where
+  pub lists : answered_to (at_hand 1 (codes "CAP LS 302")) unregistered
+      ≡ (codes ":a.net CAP * LS :" ++ crlf) ∷ []
+  pub lists_set : answered_to (at_hand 1 (codes "cap list")) unknown
+      ≡ (codes ":a.net CAP al LIST :" ++ crlf) ∷ []
+  pub takes_none : answered_to (at_hand 1 (codes "CAP REQ :a b")) unregistered
+      ≡ (codes ":a.net CAP * NAK :a b" ++ crlf) ∷ []
+  pub ends : answered_to (at_hand 1 (codes "CAP END")) unregistered ≡ []
+  pub other : answered_to (at_hand 1 (codes "CAP FOO")) unknown
+      ≡ (codes ":a.net 410 al FOO :Invalid CAP command" ++ crlf) ∷ []
+  pub alone : answered_to (at_hand 1 (codes "CAP")) unknown
+      ≡ (codes ":a.net 461 al CAP :Not enough parameters" ++ crlf) ∷ []
+  pub of_another : answered_to (at_hand 2 (codes "CAP LS")) unregistered
+      ≡ (unregistered ++ crlf) ∷ []
+  pub not_refused : answered_to (at_hand 1 (codes "CAP LS")) (codes ":al!u@h PRIVMSG al :421")
+      ≡ (codes ":al!u@h PRIVMSG al :421" ++ crlf) ∷ []
+  pub another_line : answered_to (at_hand 1 (codes "JOIN #c")) unregistered
+      ≡ (unregistered ++ crlf) ∷ []

@@ -1,3 +1,4 @@
+pub mod Capabilities
 pub mod Doors
 pub mod Examples
 pub mod Letters

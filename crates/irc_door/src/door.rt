@@ -2,6 +2,7 @@
 ghost use Rattle.std.specs.Prelude.{◌≡◌, IfErr};
 ghost use Rattle.irc_engine.specs.Machines.{IsConnectedBy, IsRefusal};
 
+use crate::capabilities::asked_of;
 use crate::manner::Manner;
 use crate::saying::put_said;
 use irc_batch::Batch;
@@ -48,7 +49,8 @@ impl<M: Machine> Machine for Door<M> {
     fn handle(&mut self, event: &Event, out: &mut Batch) -> Result<(), ServerFault> {
         self.held.clear();
         self.machine.handle(event, &mut self.held)?;
-        put_said(&self.manner, &mut self.held, out)?;
+        let asked = asked_of(self.manner.programs, event);
+        put_said(&self.manner, asked, &mut self.held, out)?;
         Ok(())
     }
 
@@ -58,7 +60,7 @@ impl<M: Machine> Machine for Door<M> {
         if held.len() == 0 {
             return Ok(());
         }
-        put_said(&self.manner, &mut held, out)?;
+        put_said(&self.manner, None, &mut held, out)?;
         Ok(())
     }
 

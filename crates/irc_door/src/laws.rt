@@ -1,7 +1,8 @@
 //! What a door says. A law is a function that does nothing, and its contract is the law: the check
 //! proves it.
 ghost use Rattle.irc_door.specs.Doors.{IsPlainly};
-ghost use Rattle.irc_door.specs.Examples.{LettersAreWhole, MessagesAreTold, OthersGo};
+ghost use Rattle.irc_door.specs.Examples.{CapabilitiesAreNone, LettersAreWhole};
+ghost use Rattle.irc_door.specs.Examples.{MessagesAreTold, OthersGo};
 ghost use Rattle.irc_door.specs.Examples.{RowsAreTurned, TextsAreMessages, VersionIsOne};
 
 /// Where nothing is asked for, all goes as the machine says it.
@@ -17,4 +18,5 @@ pub fn texts_said()
     ensures version { VersionIsOne }
     ensures message { MessagesAreTold }
     ensures texts { TextsAreMessages }
+    ensures capabilities { CapabilitiesAreNone }
 {}

@@ -3,6 +3,7 @@
 //! what goes on links, it leaves as it is. Definitions are in `specs/`.
 #![tactic(auto)]
 
+mod capabilities;
 mod door;
 pub mod laws;
 mod letters;

@@ -14,11 +14,11 @@ use irc_batch::Batch;
 use irc_line::{Message, Text, parse, push_cut};
 use std::alloc::AllocError;
 
-/// To whom a server says that it has no message of the day.
+/// To whom a server says something.
 #[derive(Clone, Copy)]
 pub(crate) struct Hearer<'a> {
-    server: &'a [u8],
-    nick: &'a [u8],
+    pub server: &'a [u8],
+    pub nick: &'a [u8],
 }
 
 /// To whom a text says that there is no message, if it is 422.

@@ -33,6 +33,11 @@ use Rattle.irc_doorman.specs.declared.doorman.Doorman.{Doorman}
 use Rattle.irc_doorman.specs.Doormen.{server_behind as server_kept, watched_by, IsAdmitted}
 use Rattle.irc_doorman.specs.Doormen.{IsNewDoorman}
 use Rattle.irc_doorman.specs.Passwords.{IsClientPassword}
+use Rattle.irc_hold.specs.declared.hold.Hold.{Hold}
+use Rattle.irc_hold.specs.declared.hold.Negotiations.{Negotiations}
+use Rattle.irc_hold.specs.declared.hold.Negotiations.TheVariants.{Off as NothingWaits, Awaited}
+use Rattle.irc_hold.specs.Holds.{dues_by as dues_held, server_behind as server_held, IsHeldBack}
+use Rattle.irc_hold.specs.Holds.{IsNewHold}
 use Rattle.irc_layer.specs.declared.layer.Layer.{Layer}
 use Rattle.irc_layer.specs.Layers.{server_of, IsAround, IsLayered}
 use Rattle.irc_turns.specs.Ranges.{AreRanges, IsSomeNoRange}
@@ -252,28 +257,44 @@ listening_of setup =
       proxies = setup.proxies;
     }
 
--- What serves: a door in front of a doorman in front of a layer around a server.
+-- What serves: a door in front of a doorman in front of a hold in front of a layer around a server.
+abbrev pub Inner : Type 0
+Inner = Hold Layer
+
+abbrev pub inner_server : Inner → Option View
+inner_server = server_held server_of
+
+abbrev pub IsInner : Handles Inner
+IsInner = IsHeldBack server_of IsLayered
+
 abbrev pub Front : Type 0
-Front = Door (Doorman Layer)
+Front = Door (Doorman Inner)
 
 abbrev pub front_server : Front → Option View
-front_server = server_behind (server_kept server_of)
+front_server = server_behind (server_kept inner_server)
 
 abbrev pub IsAnswered : Handles Front
-IsAnswered = IsTurned (IsAdmitted server_of IsLayered)
+IsAnswered = IsTurned (IsAdmitted inner_server IsInner)
 
 abbrev pub front_dues : Dues Front
-front_dues = dues_by (watched_by server_of IsLayered never_due)
+front_dues = dues_by (watched_by inner_server IsInner (dues_held never_due))
+
+-- USER waits for the end of a negotiation where programs are told what they expect
+abbrev pub negotiations_of : Programs → Negotiations
+negotiations_of Off = NothingWaits
+negotiations_of Usual = Awaited
 
 -- An engine is open: it has served nobody, its door speaks to clients as was set up, in front of a
--- doorman who asks what was, in front of a layer around the server that was, an outbox has room for
--- as much as was set up, and its wire listens where that was, and calls whom that was to call,
--- again by that spread.
+-- doorman who asks what was, in front of a hold and a layer around the server that was, an outbox
+-- has room for as much as was set up, and its wire listens where that was, and calls whom that was
+-- to call, again by that spread.
 pub record IsOpened (setup : Setup) (engine : EngineViewOf MioWire Front) : Type 0 where
   pub door : Front
   pub manner : IsMannerOf setup door.manner
   pub layer : Layer
-  pub asks : IsNewDoorman layer setup.asks door.machine
+  pub inner : Inner
+  pub hold : IsNewHold layer (negotiations_of setup.programs) inner
+  pub asks : IsNewDoorman inner setup.asks door.machine
   pub is_around : IsAround setup.server setup.plain.items layer
   pub sockets : MioWire
   pub listens : ListensAt (listening_of setup) sockets

@@ -59,7 +59,10 @@ static ROWS: [AskingRow; 9] = [
             Step::Says("NICK al", ""),
             Step::Says("PASS other", ""),
             Step::Says("USER u 0 * :Al", WELCOME),
-            Step::Says("PASS", ":a.net 462 al :Unauthorized command (already registered)\r\n"),
+            Step::Says(
+                "PASS",
+                ":a.net 462 al :Unauthorized command (already registered)\r\n",
+            ),
         ],
     },
     AskingRow {

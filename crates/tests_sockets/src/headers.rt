@@ -90,7 +90,11 @@ fn bad_lines_name_nobody(rt: HostRuntime) {
 
 #[test]
 fn bad_texts_are_no_ranges(rt: HostRuntime) {
-    assert!(rt; BAD_RANGES.iter().all(|text| AddressRange::read(text).is_none()));
+    assert!(rt;
+        BAD_RANGES
+            .iter()
+            .all(|text| AddressRange::read(text).is_none())
+    );
 }
 
 #[test]

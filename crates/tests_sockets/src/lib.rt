@@ -22,6 +22,8 @@ mod full;
 #[cfg(test)]
 mod headers;
 #[cfg(test)]
+mod holding;
+#[cfg(test)]
 mod hostile;
 #[cfg(test)]
 mod lent;

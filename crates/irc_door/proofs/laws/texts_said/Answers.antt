@@ -1,3 +1,4 @@
+use Rattle.irc_door.proofs.Examples.{capabilities_are_none}
 use Rattle.irc_door.proofs.Examples.{letters_are_whole, messages_are_told, others_go}
 use Rattle.irc_door.proofs.Examples.{rows_are_turned, texts_are_messages, version_is_one}
 use Rattle.irc_door.proofs.laws.texts_said.Goals as goal
@@ -19,3 +20,6 @@ returns-clause-message c = messages_are_told
 
 pub returns-clause-texts : goal.returns-clause-texts
 returns-clause-texts c = texts_are_messages
+
+pub returns-clause-capabilities : goal.returns-clause-capabilities
+returns-clause-capabilities c = capabilities_are_none

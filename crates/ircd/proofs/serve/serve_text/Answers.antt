@@ -2,7 +2,7 @@ use Rattle.irc_engine.specs.Lemmas.NewServers.{made_has_nobody}
 use Rattle.ircd.proofs.Ready.{manner_unread, not_opened, opened_served, text_refused}
 use Rattle.ircd.proofs.serve.serve_text.Goals as goal
 
-pub open-requires-clause-nobody : goal.open-requires-nobody
+pub open-requires-clause-nobody : goal.open-requires-clause-nobody
 open-requires-clause-nobody g c =
     let set_up = c.in_ok-setup.ensures.is_set_up in
     made_has_nobody set_up.config _ (set_up.no_fault, set_up.server_is)

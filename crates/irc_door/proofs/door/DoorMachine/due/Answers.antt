@@ -1,4 +1,4 @@
-use Rattle.std.proofs.Common.{◌∙◌, ap, sym}
+use Rattle.std.proofs.Common.{None, ◌∙◌, ap, sym}
 use Rattle.std.proofs.lemmas.List.{nil_from_length}
 use Rattle.irc_door.specs.Doors.{server_behind}
 use Rattle.irc_door.proofs.Due.{done, failed, nothing_more, unsaid}
@@ -22,7 +22,7 @@ returns-then-len-eq0-clause-due g c =
     done c.args.self.now c.args.moment c.args.out.now.outs c.new-held.result.outs
     (ap (λ b. b.outs) c.new-held.ensures) g.M.Machine.dues c.due.new.self c.args.out.now.outs
     c.due.new.out.outs c.in_ok-due.ensures.due
-    (nothing_more c.args.self.now.manner c.args.out.now.outs c.due.new.out.outs
+    (nothing_more c.args.self.now.manner None c.args.out.now.outs c.due.new.out.outs
     (nil_from_length c.due.new.out.outs (sym c.len.ensures ∙ c.if-len-eq0.true)))
 
 pub returns-in_err-put_said-clause-due : goal.returns-in_err-put_said-clause-due
@@ -46,7 +46,7 @@ returns-clause-due g c =
 
 pub returns-clause-connected : goal.returns-clause-connected
 returns-clause-connected g c =
-    still_said c.args.self.now.manner (server_behind g.M.Machine.server_of c.args.self.now)
+    still_said c.args.self.now.manner None (server_behind g.M.Machine.server_of c.args.self.now)
     (g.M.Machine.server_of c.due.new.self) c.new-held.result.outs c.due.new.out.outs
     c.args.out.now.outs c.put_said.new.out.outs (ap (λ b. b.outs) c.new-held.ensures)
     c.in_ok-due.ensures.connected c.in_ok-put_said.ensures

@@ -1,6 +1,8 @@
-use Rattle.std.proofs.Common.{ap, refl}
-use Rattle.irc_door.specs.Doors.{server_behind}
-use Rattle.irc_door.proofs.Handled.{handled_refused, handled_said, handled_unsaid, memory_owed}
+use Rattle.std.proofs.Common.{◌∙◌, ◌++◌, ap, refl}
+use Rattle.irc_engine.specs.Lemmas.Stills.{memory_owed}
+use Rattle.irc_door.specs.Capabilities.{asked_of}
+use Rattle.irc_door.specs.Doors.{said_by, server_behind}
+use Rattle.irc_door.proofs.Handled.{handled_refused, handled_said, handled_unsaid}
 use Rattle.irc_door.proofs.Said.{connected_said}
 use Rattle.irc_door.proofs.door.DoorMachine.handle.Goals as goal
 
@@ -41,12 +43,16 @@ returns-clause-handled g c =
       alloc = c.args.self.now.alloc;
     }) c.args.event.now c.args.out.now.outs c.clear.new.self.outs c.handle.new.out.outs
     c.put_said.new.out.outs (ap (λ b. b.outs) c.clear.ensures) c.in_ok-handle.ensures.handled refl
-    c.in_ok-put_said.ensures
+    (c.in_ok-put_said.ensures ∙ ap (λ asked. c.args.out.now.outs
+    ++ said_by c.args.self.now.manner asked c.handle.new.out.outs) c.asked_of-asked.ensures)
 
 pub returns-clause-connected : goal.returns-clause-connected
 returns-clause-connected g c =
     connected_said c.args.event.now c.args.self.now.manner
+    (asked_of c.args.self.now.manner.programs c.args.event.now)
     (server_behind g.M.Machine.server_of c.args.self.now)
     (g.M.Machine.server_of c.handle.new.self) c.clear.new.self.outs c.handle.new.out.outs
     c.args.out.now.outs c.put_said.new.out.outs (ap (λ b. b.outs) c.clear.ensures)
-    c.in_ok-handle.ensures.connected c.in_ok-put_said.ensures
+    c.in_ok-handle.ensures.connected
+    (c.in_ok-put_said.ensures ∙ ap (λ asked. c.args.out.now.outs
+    ++ said_by c.args.self.now.manner asked c.handle.new.out.outs) c.asked_of-asked.ensures)

@@ -1,0 +1,4 @@
+pub mod Examples
+pub mod Handling
+pub mod Others
+pub mod Standing
