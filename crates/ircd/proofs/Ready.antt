@@ -7,7 +7,6 @@ use Rattle.irc_outbox.specs.Calls.{Call}
 use Rattle.irc_sockets.specs.declared.mio_wire.MioWire.{MioWire}
 use Rattle.irc_engine.specs.declared.engine.EngineFault.{EngineFault}
 use Rattle.irc_engine.specs.EngineView.{EngineViewOf}
-use Rattle.irc_engine.specs.Machines.{never_due}
 use Rattle.irc_engine.specs.Telling.{RunsTellingBy}
 use Rattle.irc_engine.specs.Laws.Tellings.{runs_tell_some}
 use Rattle.irc_journal.specs.Saying.{AreSomeSaid}
@@ -21,7 +20,7 @@ use Rattle.std.specs.declared.net.socket_addr.SocketAddr.{SocketAddr}
 use Rattle.ircd.specs.ClosedDoors.{SaysClosed, SaysFault}
 use Rattle.ircd.specs.Serving.{IsCutShort, IsFailed, IsOpened, IsReadSetup, IsTextOf, IsUnopened}
 use Rattle.ircd.specs.Serving.{Serves, ServesFile, ServesText, listening_of}
-use Rattle.ircd.specs.Serving.{front_server, Front, IsAnswered}
+use Rattle.ircd.specs.Serving.{front_dues, front_server, Front, IsAnswered}
 use Rattle.ircd.specs.Serving.IsCutShort.{printing, unopened, unprinted}
 use Rattle.ircd.specs.Serving.IsFailed.{failed_opening, failed_serving}
 use Rattle.ircd.specs.Serving.{bad_motd, bad_text}
@@ -68,7 +67,7 @@ ready_cut is_after turns old new held after said r tells failed =
 -- a turn is not taken
 pub turns_stopped : {W : Type 0} (is_after : W → List Call → Type 0) (old : EngineViewOf W Front)
     (turns : ℕ) (new : EngineViewOf W Front) (said said_after : Option (List ℕ))
-    (r : Result (Unit {0}) EngineFault) → RunsTellingBy is_after front_server IsAnswered never_due
+    (r : Result (Unit {0}) EngineFault) → RunsTellingBy is_after front_server IsAnswered front_dues
     old said turns new said_after r
     → TakesTurns is_after old turns new said said_after (Err Failed)
 turns_stopped is_after old turns new said said_after r runs =

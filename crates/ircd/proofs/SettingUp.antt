@@ -19,12 +19,14 @@ use Rattle.irc_endings.specs.declared.fault.Stop.{Stop}
 use Rattle.irc_endings.specs.declared.fault.Stop.TheVariants.{Usage, BadScript, BadConfiguration}
 use Rattle.irc_endings.specs.declared.fault.Stop.TheVariants.{Failed}
 use Rattle.ircd.specs.declared.setup.Setup.{Setup}
+use Rattle.irc_doorman.specs.declared.asks.Asks.{Asks}
+use Rattle.ircd.specs.Loops.SettingUp.{FindsAsks, FindsPassword}
 use Rattle.ircd.specs.Loops.SettingUp.{FindsCallee, FindsCallees, FindsName, FindsOptional}
 use Rattle.ircd.specs.Loops.SettingUp.{FindsRanges}
 use Rattle.ircd.specs.Serving.{AreCalled, Configures, IsAddress, IsNoAddress, IsReadSetup}
 use Rattle.ircd.specs.Serving.{IsRefused, IsSomeUncalled, SetsUp}
 use Rattle.ircd.specs.Serving.{nobody, uncalled, called, no_address, no_name, this, later, links}
-use Rattle.ircd.specs.Serving.{deny, proxies, server, refused}
+use Rattle.ircd.specs.Serving.{asked, deny, no_password, proxies, server, refused}
 use Rattle.ircd.specs.Serving.IsRefused.{called as uncallable}
 use Rattle.irc_endings.specs.Statuses.{stop_of_config}
 
@@ -209,3 +211,27 @@ read_up text settings (Err BadConfiguration) read sets = refused settings read s
 read_up text settings (Err Failed) read sets = tt
 read_up text settings (Err Usage) read sets = absurd sets
 read_up text settings (Err (BadScript line)) read sets = absurd sets
+
+-- ---- what clients are asked
+
+pub password_refused : {Z : Type 0} (settings : Settings) (r : Result Asks Stop) (stop : Stop)
+    (lent : Option (Bor (String Z))) (setting : Option (String Z)) → option_copied lent ≡ setting
+    → option_map string_bytes setting ≡ option_map string_bytes settings.password
+    → FindsPassword (option_map (λ text. string_bytes text.now) lent) (Err stop)
+    → IsErrAnd r (λ e. e ≡ stop) → FindsAsks settings r
+password_refused settings r stop lent setting lent_as is found failed =
+    by r (option_map (λ text. string_bytes text.now) lent) (lent_is lent setting lent_as ∙ is) found
+    failed
+  where
+    by : (r : Result Asks Stop) (text : Option (List ℕ))
+        → text ≡ option_map string_bytes settings.password → FindsPassword text (Err stop)
+        → IsErrAnd r (λ e. e ≡ stop) → FindsAsks settings r
+    by (Ok asks) text is found failed = absurd failed
+    by (Err e) None is found failed = absurd found
+    by (Err e) (Some written) is found failed =
+        (failed ∙ found.0, no_password (sym is) found.1)
+
+pub asks_refused : (settings : Settings) (r : Result Setup Stop) (stop : Stop)
+    → FindsAsks settings (Err stop) → IsErrAnd r (λ e. e ≡ stop) → SetsUp settings r
+asks_refused settings r stop found failed =
+    refused_by settings r stop failed found.0 (asked found.1)

@@ -3,7 +3,8 @@ use Rattle.std.specs.Net.Grammar.{IsSocketText}
 use Rattle.irc_turns.specs.Ranges.{AreRanges}
 use Rattle.ircd.specs.Serving.{plain_names, AreCalled}
 use Rattle.ircd.specs.Loops.SettingUp.{FindsCallees, FindsRanges}
-use Rattle.ircd.proofs.SettingUp.{calls_refused, deny_refused, found_in, lent_is, links_refused}
+use Rattle.ircd.proofs.SettingUp.{asks_refused, calls_refused, deny_refused, found_in, lent_is}
+use Rattle.ircd.proofs.SettingUp.{links_refused}
 use Rattle.ircd.proofs.SettingUp.{proxies_refused, server_refused}
 use Rattle.ircd.proofs.setup.set_up.Goals as goal
 
@@ -45,6 +46,11 @@ returns-in_err-new c =
     c.in_err-new.field-0.0
     c.in_ok-config.ensures c.in_err-new.ensures
     c.from_residual-in_err-new.ensures.1
+
+pub returns-in_err-asks : goal.returns-in_err-asks
+returns-in_err-asks c =
+    asks_refused c.args.settings.now c.from_residual-in_err-asks.result
+    c.in_err-asks.field-0.0 c.in_err-asks.ensures c.from_residual-in_err-asks.ensures.1
 
 pub returns : goal.returns
 returns c = record {
