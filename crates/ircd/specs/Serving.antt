@@ -284,17 +284,24 @@ abbrev pub negotiations_of : Programs → Negotiations
 negotiations_of Off = NothingWaits
 negotiations_of Usual = Awaited
 
+-- what stands in front of a layer
+pub record IsFrontOf (layer : Layer) (programs : Programs) (asks : Asks) (manner : Manner)
+    (door : Front) : Type 0 where
+  pub manner_is : door.manner ≡ manner
+  pub inner : Inner
+  pub hold : IsNewHold layer (negotiations_of programs) inner
+  pub asks_is : IsNewDoorman inner asks door.machine
+
 -- An engine is open: it has served nobody, its door speaks to clients as was set up, in front of a
 -- doorman who asks what was, in front of a hold and a layer around the server that was, an outbox
 -- has room for as much as was set up, and its wire listens where that was, and calls whom that was
 -- to call, again by that spread.
 pub record IsOpened (setup : Setup) (engine : EngineViewOf MioWire Front) : Type 0 where
-  pub door : Front
-  pub manner : IsMannerOf setup door.manner
+  pub manner : Manner
+  pub speaks : IsMannerOf setup manner
   pub layer : Layer
-  pub inner : Inner
-  pub hold : IsNewHold layer (negotiations_of setup.programs) inner
-  pub asks : IsNewDoorman inner setup.asks door.machine
+  pub door : Front
+  pub front : IsFrontOf layer setup.programs setup.asks manner door
   pub is_around : IsAround setup.server setup.plain.items layer
   pub sockets : MioWire
   pub listens : ListensAt (listening_of setup) sockets

@@ -6,6 +6,7 @@ ghost use Rattle.std.specs.Process.{exit_status};
 ghost use Rattle.ircd.specs.Endings.{IsStatus};
 
 mod closed_door;
+mod front;
 mod program;
 #[cfg(test)]
 mod program_tests;

@@ -6,15 +6,14 @@ ghost use Rattle.irc_engine.specs.EngineView.{engine_view};
 ghost use Rattle.ircd.specs.ClosedDoors.{SaysFault};
 ghost use Rattle.ircd.specs.Loops.Turns.{IsOfFile, IsRun, Opens, TakesTurns};
 ghost use Rattle.ircd.specs.Loops.Manners.{FindsManner, FindsMotd, IsMotdIn, ReadsMotd};
-ghost use Rattle.ircd.specs.Serving.{negotiations_of, IsMannerOf, ServesFile, ServesText};
+ghost use Rattle.ircd.specs.Serving.{IsMannerOf, ServesFile, ServesText};
 
 use crate::closed_door::say_closed;
+use crate::front::{Front, front_of};
 use crate::setup::{Setup, read_setup};
-use irc_door::{Door, Manner, Motd, MotdFault, Programs};
-use irc_doorman::Doorman;
+use irc_door::{Manner, Motd, MotdFault};
 use irc_endings::{Stop, say_ready};
 use irc_engine::Engine;
-use irc_hold::{Hold, Negotiations};
 use irc_layer::Layer;
 use irc_outbox::Wire;
 use irc_sockets::{ListenFault, Listening, MioWire};
@@ -22,9 +21,6 @@ use std::alloc::Global;
 use std::fs::{Files, read_to_string};
 use std::io::{ErrorKind, Write};
 use std::net::Net;
-
-/// What serves.
-type Front = Door<Doorman<Hold<Layer>>>;
 
 /// Serves as a file says, for so many turns. Says `ready` as soon as clients and servers can
 /// connect, and the servers that it calls are called, whether they are reached or not. What becomes
@@ -158,21 +154,9 @@ fn open<T: Net, E: Write>(
         Err(fault) => return Err(stop_for(fault, errors)),
     };
     let layer = Layer::new(alloc, setup.server, setup.plain);
-    let hold = Hold::new(alloc, layer, negotiations(setup.programs));
-    let doorman = Doorman::new(alloc, hold, setup.asks);
-    let door = Door::new(alloc, doorman, manner);
-    let engine = Engine::new(alloc, door, wire, setup.client_room, setup.link_room)?;
+    let front = front_of(alloc, layer, setup.programs, setup.asks, manner);
+    let engine = Engine::new(alloc, front, wire, setup.client_room, setup.link_room)?;
     Ok(engine)
-}
-
-/// Whether USER waits for the end of a negotiation.
-fn negotiations(programs: Programs) -> Negotiations
-    ensures { result ≡ negotiations_of programs }
-{
-    match programs {
-        Programs::Off => Negotiations::Off,
-        Programs::Usual => Negotiations::Awaited,
-    }
 }
 
 /// The program ends since nobody can come. Where that is for an address, it is told.
