@@ -1,12 +1,11 @@
 -- What comes of an event that a door is asked for, by what comes of it for its machine.
-use Rattle.std.proofs.Common.{◌≡◌, Option, Result, Ok, Err, IfErr, IsErrAnd, List, [], ◌++◌, refl}
+use Rattle.std.proofs.Common.{◌≡◌, Result, Ok, Err, IsErrAnd, List, [], ◌++◌, refl}
 use Rattle.std.proofs.Common.{sym, subst}
 use Rattle.irc_batch.specs.Batches.{Sent}
-use Rattle.irc_stage.specs.View.{View}
 use Rattle.irc_server.specs.declared.event.Event.{Event}
 use Rattle.irc_server.specs.declared.event.ServerFault.{ServerFault}
 use Rattle.irc_server.specs.declared.event.ServerFault.TheVariants.{Memory}
-use Rattle.irc_engine.specs.Machines.{Handles, IsRefusal, runs_out_now}
+use Rattle.irc_engine.specs.Machines.{Handles}
 use Rattle.irc_door.specs.declared.door.Door.{Door}
 use Rattle.irc_door.specs.Capabilities.{asked_of}
 use Rattle.irc_door.specs.Doors.{refuses, said_by, says, wants_memory, IsTurned}

@@ -7,7 +7,7 @@
 --   CAP END           nothing
 --   CAP FOO           :a.net 410 al FOO :Invalid CAP command
 --   CAP               :a.net 461 al CAP :Not enough parameters
-use Rattle.std.specs.Prelude.{ℕ, Bool, ◌||◌, Option, Some, None, Result, Ok, Err, List, []}
+use Rattle.std.specs.Prelude.{ℕ, ◌||◌, Option, Some, None, Result, Ok, Err, List, []}
 use Rattle.std.specs.Prelude.{◌∷◌, codes, length, nat_eq, if◌then◌else◌}
 use Rattle.irc_line.specs.declared.reading.LineFault.{LineFault}
 use Rattle.irc_line.specs.Messages.{Parsed, Written, text}

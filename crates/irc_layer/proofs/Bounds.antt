@@ -1,5 +1,5 @@
 -- A full log stays as it is.
-use Rattle.std.proofs.Common.{◌≡◌, ℕ, Bool, true, false, List, ◌-◌, length, nat_eq, nat_le, refl}
+use Rattle.std.proofs.Common.{◌≡◌, ℕ, Bool, true, false, List, length, nat_eq, nat_le, refl}
 use Rattle.std.proofs.Common.{◌∙◌, ap, if◌then◌else◌}
 use Rattle.irc_link_end.specs.LinkEnds.{after_piece_out, way_out}
 use Rattle.irc_link_end.specs.declared.greeting.WayOut.{WayOut}

@@ -1,8 +1,7 @@
 -- Who is connected to the server of a layer.
-use Rattle.std.proofs.Common.{◌≡◌, ℕ, Bool, true, false, not, ◌&&◌, ◌||◌, Option, Some}
-use Rattle.std.proofs.Common.{List, [], ◌∷◌, ◌++◌, refl, sym, ◌∙◌, ap, append_assoc, append-nil}
+use Rattle.std.proofs.Common.{◌≡◌, ℕ, true, Option, Some}
+use Rattle.std.proofs.Common.{List, [], ◌∷◌, ◌++◌, refl, sym, ◌∙◌, ap}
 use Rattle.std.proofs.Common.{subst, OnOk, Result, Ok, Err}
-use Rattle.std.proofs.lemmas.List.Folds.{list_any-append}
 use Rattle.arrayvec.specs.ArrayVec.{ArrayVec}
 use Rattle.irc_batch.specs.declared.close_reason.CloseReason.{CloseReason}
 use Rattle.irc_batch.specs.Batches.{Sent, end_of_link}
@@ -11,10 +10,10 @@ use Rattle.irc_server.specs.declared.event.Event.{Event}
 use Rattle.irc_server.specs.declared.event.Event.TheVariants.{LinkLine, LinkDown}
 use Rattle.irc_server.specs.Connected.{client_comes, client_goes, ends_client, ends_link}
 use Rattle.irc_server.specs.Connected.{has_client}
-use Rattle.irc_server.specs.Connected.{has_link, is_client_ended, is_link_ended, is_there_after}
+use Rattle.irc_server.specs.Connected.{has_link, is_there_after}
 use Rattle.irc_server.specs.Connected.{link_comes, link_goes}
 use Rattle.irc_server.specs.ReadEvents.{read_event_of}
-use Rattle.irc_engine.specs.Machines.{AreConnectedBy, AreStillConnected, IsConnectedBy}
+use Rattle.irc_engine.specs.Machines.{AreConnectedBy, IsConnectedBy}
 use Rattle.irc_engine.specs.Machines.{IsStillConnected}
 use Rattle.irc_engine.specs.Lemmas.Layers.{connected_shut}
 use Rattle.irc_engine.specs.Lemmas.Stills.{connected_on, event_by_still, nobody_goes_by}

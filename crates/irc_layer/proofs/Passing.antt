@@ -1,6 +1,6 @@
 -- The server of a layer is given an event.
-use Rattle.std.proofs.Common.{◌≡◌, ℕ, Bool, true, false, Option, Some, None, Result, Ok, Err}
-use Rattle.std.proofs.Common.{append-nil, is_some, IfErr, IsErrAnd, List, [], ◌++◌, refl, sym, ◌∙◌}
+use Rattle.std.proofs.Common.{◌≡◌, ℕ, Bool, true, false, Option, Some, None, Ok}
+use Rattle.std.proofs.Common.{append-nil, is_some, List, [], ◌++◌, refl, sym, ◌∙◌}
 use Rattle.std.proofs.Common.{ap, subst}
 use Rattle.std.specs.FinMap.{get}
 use Rattle.irc_batch.specs.declared.close_reason.CloseReason.{CloseReason}
@@ -8,12 +8,10 @@ use Rattle.irc_batch.specs.Batches.{Sent}
 use Rattle.irc_stage.specs.View.{View, End}
 use Rattle.irc_server.specs.declared.event.Event.{Event}
 use Rattle.irc_server.specs.declared.event.Event.TheVariants.{LinkLine, LinkDown}
-use Rattle.irc_server.specs.declared.event.ServerFault.{ServerFault}
-use Rattle.irc_server.specs.declared.event.ServerFault.TheVariants.{Memory}
 use Rattle.irc_server.specs.Connected.{has_link}
 use Rattle.irc_server.specs.ReadEvents.{IsHandled, takes_it}
 use Rattle.irc_server.specs.Served.{no_link}
-use Rattle.irc_engine.specs.Machines.{runs_out_now, IsConnectedBy, IsRefusal}
+use Rattle.irc_engine.specs.Machines.{IsConnectedBy}
 use Rattle.irc_engine.specs.Machines.{IsStillConnected}
 use Rattle.irc_layer.specs.Ends.{ends_followed, Ends}
 use Rattle.irc_layer.specs.declared.end.Cause.{Cause}

@@ -1,4 +1,4 @@
-//! What serves: a door in front of a doorman in front of a hold in front of a layer around a server.
+//! What serves: a door in front of a doorman in front of a hold in front of a layer.
 ghost use Rattle.std.specs.Prelude.{◌≡◌};
 ghost use Rattle.irc_engine.specs.Knowing.{HasNobody};
 ghost use Rattle.irc_layer.specs.Layers.{server_of};
