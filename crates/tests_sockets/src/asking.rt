@@ -4,7 +4,7 @@ use irc_batch::{Batch, Out};
 use irc_doorman::{Asks, ClientPassword, Doorman};
 use irc_engine::Machine;
 use irc_moments::Moment;
-use irc_names::{Host, ServerName, copied};
+use irc_names::{Host, ServerName, cut_copy};
 use irc_server::{Event, Server, ServerFault};
 use std::alloc::Global;
 
@@ -191,7 +191,7 @@ fn connect(doorman: &mut Doorman<Server>, out: &mut Batch) -> Handled {
 
 fn does(doorman: &mut Doorman<Server>, step: &Step, out: &mut Batch) -> Handled {
     match step {
-        Step::Says(line, _) => doorman.handle(&Event::Line(1, copied(line.as_bytes())), out),
+        Step::Says(line, _) => doorman.handle(&Event::Line(1, cut_copy(line.as_bytes())), out),
         Step::At(seconds, _) => doorman.due(Moment::of(seconds.saturating_mul(1000)), out),
         Step::ComesAgain => {
             let _gone = doorman.handle(&Event::Gone(1), out);

@@ -4,7 +4,7 @@ use irc_batch::{Batch, Out};
 use irc_engine::Machine;
 use irc_hold::{Hold, Negotiations};
 use irc_moments::Moment;
-use irc_names::{Host, copied};
+use irc_names::{Host, cut_copy};
 use irc_server::{Event, Server, ServerFault};
 use std::alloc::Global;
 
@@ -254,7 +254,7 @@ fn another_says(hold: &mut Hold<Server>, line: &[u8], out: &mut Batch) -> Handle
     if !hold.server().has_client(2) {
         connect(hold, 2, out)?;
     }
-    hold.handle(&Event::Line(2, copied(line)), out)?;
+    hold.handle(&Event::Line(2, cut_copy(line)), out)?;
     out.clear();
     Ok(())
 }
@@ -269,7 +269,7 @@ fn is_there(hold: &mut Hold<Server>, out: &mut Batch) -> Handled {
 
 fn does(hold: &mut Hold<Server>, step: &Step, out: &mut Batch) -> Handled {
     match step {
-        Step::Says(line, _) => hold.handle(&Event::Line(1, copied(line.as_bytes())), out),
+        Step::Says(line, _) => hold.handle(&Event::Line(1, cut_copy(line.as_bytes())), out),
         Step::Waits => hold.due(Moment::of(1000), out),
         Step::ComesAgain => {
             hold.handle(&Event::Gone(1), out)?;
