@@ -1,7 +1,7 @@
 -- Where a wire of sockets listens.
 use Rattle.std.specs.Prelude.{◌≡◌, ◌⊎◌, ⊤, Some, option_map}
 use Rattle.std.specs.declared.net.socket_addr.SocketAddr.{SocketAddr}
-use Rattle.irc_turns.specs.Crowds.{nobody_open}
+use Rattle.irc_entrance.specs.Crowds.{nobody_open}
 use Rattle.irc_turns.specs.Marks.{marks_of}
 use Rattle.irc_turns.specs.Naming.{strangers_of}
 use Rattle.irc_turns.specs.Registering.{newcomers_of}

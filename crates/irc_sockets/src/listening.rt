@@ -1,5 +1,6 @@
 //! Where a wire of sockets is to listen.
-use irc_turns::{AddressRange, LinesPace};
+use irc_entrance::AddressRange;
+use irc_turns::LinesPace;
 use std::alloc::Global;
 use std::net::SocketAddr;
 

@@ -2,8 +2,9 @@
 ghost use Rattle.std.specs.Prelude.{◌≡◌, ◌≤◌, nat_lt};
 
 use crate::tokens::{FIRST_PROXIED, FIRST_SOCKET};
+use irc_entrance::{AwaitedHeader, ProxyHeader, may_await_one_more};
 use irc_moments::Moment;
-use irc_turns::{Arrivals, AwaitedHeader, ProxyHeader, may_await_one_more};
+use irc_turns::Arrivals;
 use mio::net::TcpStream;
 use mio::{Interest, Registry, Token};
 use std::alloc::Global;

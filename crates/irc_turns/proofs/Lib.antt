@@ -1,13 +1,7 @@
-pub mod Examples
 pub mod FirstReported
 pub mod FrontSteps
 pub mod FrontsBegun
 pub mod LettingGo
 pub mod LinesCounted
 pub mod PaceKept
-pub mod ProxyFronts
-pub mod ProxyHeaders
-pub mod ProxyPast
-pub mod ProxyWords
 pub mod QueueMarks
-pub mod RangesRead

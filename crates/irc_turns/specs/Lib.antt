@@ -1,9 +1,5 @@
 pub mod Allowances
 pub mod Arriving
-pub mod Awaiting
-pub mod Crowds
-pub mod Entering
-pub mod Examples
 pub mod Fronts
 pub mod Gathering
 pub mod HeldBack
@@ -11,12 +7,7 @@ pub mod Marks
 pub mod Naming
 pub mod Numbered
 pub mod Pacing
-pub mod ProxyBytes
-pub mod ProxyLaws
-pub mod ProxyLines
-pub mod Proxying
 pub mod Queues
-pub mod Ranges
 pub mod Registering
 pub mod Retries
 pub mod Rounds

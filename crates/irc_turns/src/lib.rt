@@ -1,22 +1,14 @@
 //! Whose turn is next, how much one takes, and which call is due: rounds, gathered writes, paces,
-//! what was read, who talks, who is held back, who is let in, who has to name itself, who is given
-//! up, and who is called again. Nothing here knows a socket.
+//! what was read, who talks, who is held back, who has to name itself, who is given up, and who is
+//! called again. Nothing here knows a socket.
 #![tactic(auto)]
 
-mod address_range;
 mod allowance;
 mod arrivals;
-mod awaited_header;
-mod crowd;
-mod entrance;
 mod holding;
-pub mod laws;
 mod marks;
 mod newcomers;
 mod pace;
-mod proxy_bytes;
-mod proxy_header;
-mod proxy_line;
 mod queue;
 mod rest;
 mod retries;
@@ -31,15 +23,10 @@ mod talkers;
 mod waiting;
 mod waits;
 
-pub use address_range::{AddressRange, read_ranges};
 pub use allowance::{LinesPace, fronts_begin_so_many, lines_are_counted, pace_is_kept};
 pub use arrivals::Arrivals;
-pub use awaited_header::{AwaitedHeader, may_await_one_more};
-pub use crowd::Crowd;
-pub use entrance::{Entrance, Entry};
 pub use marks::Marks;
 pub use newcomers::Newcomers;
-pub use proxy_header::{ProxyHeader, read_header};
 pub use retries::Retries;
 pub use round::{Round, TooMuch};
 pub use shortage::Shortage;

@@ -13,7 +13,7 @@ use Rattle.irc_server.specs.Configuring.{IsMade}
 use Rattle.irc_settings.specs.declared.settings.Settings.{Settings}
 use Rattle.irc_settings.specs.declared.settings.PeerSettings.{PeerSettings}
 use Rattle.irc_settings.specs.Configuration.{AreSettingsOf}
-use Rattle.irc_turns.specs.Ranges.{IsSomeNoRange}
+use Rattle.irc_entrance.specs.Ranges.{IsSomeNoRange}
 use Rattle.irc_sockets.specs.declared.calls.Callee.{Callee}
 use Rattle.irc_endings.specs.declared.fault.Stop.{Stop}
 use Rattle.irc_endings.specs.declared.fault.Stop.TheVariants.{Usage, BadScript, BadConfiguration}

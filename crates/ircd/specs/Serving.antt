@@ -40,7 +40,7 @@ use Rattle.irc_hold.specs.Holds.{dues_by as dues_held, server_behind as server_h
 use Rattle.irc_hold.specs.Holds.{IsNewHold}
 use Rattle.irc_layer.specs.declared.layer.Layer.{Layer}
 use Rattle.irc_layer.specs.Layers.{server_of, IsAround, IsLayered}
-use Rattle.irc_turns.specs.Ranges.{AreRanges, IsSomeNoRange}
+use Rattle.irc_entrance.specs.Ranges.{AreRanges, IsSomeNoRange}
 use Rattle.irc_turns.specs.Spreads.{name_spread}
 use Rattle.irc_turns.specs.declared.allowance.LinesPace.{LinesPace}
 use Rattle.irc_sockets.specs.declared.calls.Callee.{Callee}

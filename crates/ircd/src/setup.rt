@@ -12,12 +12,13 @@ ghost use Rattle.ircd.specs.Loops.SettingUp.{FindsRanges};
 use irc_door::Programs;
 use irc_doorman::{Asks, ClientPassword};
 use irc_endings::Stop;
+use irc_entrance::{AddressRange, read_ranges};
 use irc_names::ServerName;
 use irc_routes::Own;
 use irc_server::{Config, Peer, Server};
 use irc_settings::{PeerSettings, Settings, read_settings};
 use irc_sockets::Callee;
-use irc_turns::{AddressRange, LinesPace, name_spread, read_ranges};
+use irc_turns::{LinesPace, name_spread};
 use std::alloc::{AllocError, Global};
 use std::net::SocketAddr;
 

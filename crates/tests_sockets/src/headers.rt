@@ -1,5 +1,5 @@
 //! Headers of proxies and ranges of addresses, good ones and such as break one rule each.
-use irc_turns::{AddressRange, ProxyHeader, read_header};
+use irc_entrance::{AddressRange, ProxyHeader, read_header};
 use std::net::IpAddr;
 
 /// Lines that end as they should, and name nobody.

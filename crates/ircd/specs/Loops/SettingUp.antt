@@ -9,8 +9,8 @@ use Rattle.irc_doorman.specs.declared.asks.Asks.{Asks}
 use Rattle.irc_doorman.specs.Passwords.{IsClientPassword}
 use Rattle.irc_settings.specs.declared.settings.PeerSettings.{PeerSettings}
 use Rattle.irc_settings.specs.declared.settings.Settings.{Settings}
-use Rattle.irc_turns.specs.Ranges.{AreRanges, IsSomeNoRange}
-use Rattle.irc_turns.specs.declared.address_range.AddressRange.{AddressRange}
+use Rattle.irc_entrance.specs.Ranges.{AreRanges, IsSomeNoRange}
+use Rattle.irc_entrance.specs.declared.address_range.AddressRange.{AddressRange}
 use Rattle.irc_sockets.specs.declared.calls.Callee.{Callee}
 use Rattle.irc_endings.specs.declared.fault.Stop.{Stop}
 use Rattle.irc_endings.specs.declared.fault.Stop.TheVariants.{Usage, BadScript, BadConfiguration}

@@ -1,6 +1,6 @@
 use Rattle.std.proofs.Common.{◌≡◌, ◌∙◌, Ok, Err, map, refl, string_bytes, subst}
 use Rattle.std.specs.Net.Grammar.{IsSocketText}
-use Rattle.irc_turns.specs.Ranges.{AreRanges}
+use Rattle.irc_entrance.specs.Ranges.{AreRanges}
 use Rattle.ircd.specs.Serving.{plain_names, AreCalled}
 use Rattle.ircd.specs.Loops.SettingUp.{FindsCallees, FindsRanges}
 use Rattle.ircd.proofs.SettingUp.{asks_refused, calls_refused, deny_refused, found_in, lent_is}

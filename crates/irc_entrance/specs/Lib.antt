@@ -1,0 +1,9 @@
+pub mod Awaiting
+pub mod Crowds
+pub mod Entering
+pub mod Examples
+pub mod ProxyBytes
+pub mod ProxyLaws
+pub mod ProxyLines
+pub mod Proxying
+pub mod Ranges

@@ -1,8 +1,0 @@
-use Rattle.irc_turns.proofs.Examples.{bytes_are_read, lines_are_wanted}
-use Rattle.irc_turns.proofs.laws.headers_are_read.Goals as goal
-
-pub returns-clause-lines : goal.returns-clause-lines
-returns-clause-lines c = lines_are_wanted
-
-pub returns-clause-bytes : goal.returns-clause-bytes
-returns-clause-bytes c = bytes_are_read

@@ -1,5 +1,0 @@
-use Rattle.irc_turns.proofs.ProxyPast.{headers_are_taken}
-use Rattle.irc_turns.proofs.laws.headers_are_taken.Goals as goal
-
-pub returns : goal.returns
-returns c = headers_are_taken

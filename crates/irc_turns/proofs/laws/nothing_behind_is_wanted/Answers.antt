@@ -1,5 +1,0 @@
-use Rattle.irc_turns.proofs.ProxyPast.{nothing_behind_is_wanted}
-use Rattle.irc_turns.proofs.laws.nothing_behind_is_wanted.Goals as goal
-
-pub returns : goal.returns
-returns c = nothing_behind_is_wanted

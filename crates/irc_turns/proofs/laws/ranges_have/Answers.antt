@@ -1,5 +1,0 @@
-use Rattle.irc_turns.proofs.Examples.{ranges_have}
-use Rattle.irc_turns.proofs.laws.ranges_have.Goals as goal
-
-pub returns : goal.returns
-returns c = ranges_have

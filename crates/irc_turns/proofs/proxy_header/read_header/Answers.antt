@@ -1,6 +1,0 @@
-use Rattle.std.proofs.Common.{◌∙◌, sym}
-use Rattle.irc_turns.proofs.ProxyHeaders.{no_kind}
-use Rattle.irc_turns.proofs.proxy_header.read_header.Goals as goal
-
-pub returns-in-Neither : goal.returns-in-Neither
-returns-in-Neither c = no_kind c.args.bytes.now _ (sym c.kind.ensures ∙ c.in-Neither.is)
