@@ -1,7 +1,7 @@
 -- What a layer around a server has to promise of who is connected by a line of a link: where it
 -- gives its server nothing for it, where it gives it several lines, and where it closes the link.
 use Rattle.std.proofs.Common.{◌≡◌, ℕ, Bool, true, false, not, ◌&&◌, ◌||◌, nat_eq, Option, Some}
-use Rattle.std.proofs.Common.{List, [], ◌∷◌, ◌++◌, refl, sym, ◌∙◌, ap, append_assoc, append-nil}
+use Rattle.std.proofs.Common.{List, [], ◌∷◌, ◌++◌, refl, sym, ◌∙◌, ap, append_assoc}
 use Rattle.std.proofs.lemmas.Bool.{eqb-true}
 use Rattle.std.proofs.lemmas.List.Folds.{list_any-append}
 use Rattle.arrayvec.specs.ArrayVec.{ArrayVec}
@@ -13,18 +13,10 @@ use Rattle.irc_server.specs.Connected.{ends_client, ends_link, has_client, has_l
 use Rattle.irc_server.specs.Connected.{is_client_ended, is_link_ended}
 use Rattle.irc_server.specs.ReadEvents.{read_event_of}
 use Rattle.irc_engine.specs.Machines.{AreConnectedBy, IsConnectedBy}
+use Rattle.irc_engine.specs.Lemmas.Stills.{connected_on, event_by_still, nobody_goes}
+use Rattle.irc_engine.specs.Lemmas.Stills.{still_by_event}
 
 -- ---- booleans
-
-there_still : (b : Bool) → b ≡ ((b || false) && true)
-there_still true = refl
-there_still false = refl
-
-there_twice : (a x y : Bool) → ((((a || false) && not x) || false) && not y)
-    ≡ ((a || false) && not (x || y))
-there_twice true true y = refl
-there_twice true false y = refl
-there_twice false x y = refl
 
 shut_by : (a t x : Bool)
     → ((a || false) && not (t || x)) ≡ ((a || false) && not (x || (t || false)))
@@ -41,14 +33,6 @@ or_false : (b : Bool) → (b || false) ≡ b
 or_false true = refl
 or_false false = refl
 
--- one was there who was closed in the first step or in the second
-was_before : (a x y m : Bool) → m ≡ ((a || false) && not x) → (x ≡ true → a ≡ true)
-    → (y ≡ true → m ≡ true) → (x || y) ≡ true → a ≡ true
-was_before true x y m is one other ended = refl
-was_before false true y m is one other ended = one refl
-was_before false false true m is one other ended = cc (sym is ∙ other refl)
-was_before false false false m is one other ended = cc ended
-
 ended_as : (x t : Bool) → (x || (t || false)) ≡ true → (t ≡ false → x ≡ true)
 ended_as true t ended none = refl
 ended_as false true ended none = cc none
@@ -60,63 +44,22 @@ module _ (link : ℕ) (line : ArrayVec ℕ) where
   -- the server is given nothing, and nothing is put out
   pub connected_without : (server : Option View) (before : List Sent)
       → IsConnectedBy server (LinkLine link line) before server before
-  connected_without server before = record {
-    outs = [];
-    after_is = sym (append-nil before);
-    connected = λ behind is. (
-      behind,
-      is,
-      record {
-        clients = λ conn. there_still (has_client behind conn);
-        links = λ q. there_still (has_link behind q);
-        clients_were_there = λ conn ended. cc ended;
-        links_were_there = λ q ended. cc ended;
-      },
-    );
-  }
-
-  two_lines : (next : ArrayVec ℕ) (was mid new : View) (x y : List Sent)
-      → AreConnectedBy was (read_event_of (LinkLine link line)) x mid
-      → AreConnectedBy mid (read_event_of (LinkLine link next)) y new
-      → AreConnectedBy was (read_event_of (LinkLine link line)) (x ++ y) new
-  two_lines next was mid new x y one other = record {
-    clients = λ q. other.clients q
-        ∙ ap (λ t. (t || false) && not (is_client_ended q y)) (one.clients q)
-        ∙ there_twice (has_client was q) (is_client_ended q x) (is_client_ended q y)
-        ∙ ap (λ t. (has_client was q || false) && not t)
-        (sym (list_any-append (ends_client q) x y));
-    links = λ q. other.links q
-        ∙ ap (λ t. (t || false) && not (is_link_ended q y)) (one.links q)
-        ∙ there_twice (has_link was q) (is_link_ended q x) (is_link_ended q y)
-        ∙ ap (λ t. (has_link was q || false) && not t) (sym (list_any-append (ends_link q) x y));
-    clients_were_there = λ q ended.
-        was_before (has_client was q) (is_client_ended q x) (is_client_ended q y) (has_client mid q)
-        (one.clients q) (one.clients_were_there q) (other.clients_were_there q)
-        (sym (list_any-append (ends_client q) x y) ∙ ended);
-    links_were_there = λ q ended. or_false (has_link was q)
-        ∙ was_before (has_link was q) (is_link_ended q x) (is_link_ended q y) (has_link mid q)
-        (one.links q) (λ is. sym (or_false (has_link was q)) ∙ one.links_were_there q is)
-        (λ is. sym (or_false (has_link mid q)) ∙ other.links_were_there q is)
-        (sym (list_any-append (ends_link q) x y) ∙ ended);
-  }
+  connected_without server before =
+      event_by_still (LinkLine link line) (λ q. refl) (λ q. refl) (λ q. refl) (λ q. refl) server
+      server before before (nobody_goes server before)
 
   -- it is given one line, and then another
   pub connected_twice : (next : ArrayVec ℕ) (server between after : Option View)
       (before mid end : List Sent) → IsConnectedBy server (LinkLine link line) before between mid
       → IsConnectedBy between (LinkLine link next) mid after end
       → IsConnectedBy server (LinkLine link line) before after end
-  connected_twice next server between after before mid end one other = record {
-    outs = one.outs ++ other.outs;
-    after_is = other.after_is ∙ ap (λ os. os ++ other.outs) one.after_is
-        ∙ append_assoc before one.outs other.outs;
-    connected = λ behind is.
-        let then = other.connected behind is in
-        let first = one.connected then.0 then.1 in (
-          first.0,
-          first.1,
-          two_lines next first.0 then.0 behind one.outs other.outs first.2 then.2,
-        );
-  }
+  connected_twice next server between after before mid end one other =
+      event_by_still (LinkLine link line) (λ q. refl) (λ q. refl) (λ q. refl) (λ q. refl) server
+      after before end (connected_on server between after before mid end
+      (still_by_event (LinkLine link line) (λ q. refl) (λ q. refl) (λ q. refl) (λ q. refl) server
+      between before mid one)
+      (still_by_event (LinkLine link next) (λ q. refl) (λ q. refl) (λ q. refl) (λ q. refl) between
+      after mid end other))
 
   shut : (reason : CloseReason) (was new : View) (x : List Sent) → has_link was link ≡ true
       → AreConnectedBy was (read_event_of (LinkDown link)) x new
