@@ -1,6 +1,7 @@
 //! A hold in front of a server: what one client says while it negotiates, and what it is told.
 use crate::server::server;
-use irc_batch::{Batch, Out};
+use crate::told::{WELCOME, is_told};
+use irc_batch::Batch;
 use irc_engine::Machine;
 use irc_hold::{Hold, Negotiations};
 use irc_moments::Moment;
@@ -29,13 +30,6 @@ enum Step {
     /// Client 2, which comes where it is not there, says a line, and is told what is not looked at.
     AnotherSays(&'static str),
 }
-
-const WELCOME: &str = "\
-:a.net 001 al :Welcome to the Internet Relay Network al!u@h\r\n\
-:a.net 002 al :Your host is a.net, running version treeircd-1\r\n\
-:a.net 003 al :This server was created 2024-01-01\r\n\
-:a.net 004 al a.net treeircd-1 i biklmnopstv\r\n\
-:a.net 422 al :MOTD File is missing\r\n";
 
 const WELCOME_V: &str = "\
 :a.net 001 al :Welcome to the Internet Relay Network al!v@h\r\n\
@@ -218,27 +212,6 @@ static ROWS: [HoldingRow; 15] = [
         ],
     },
 ];
-
-/// Whether just this is put out for client 1.
-fn is_told(out: &Batch, told: &str) -> bool {
-    let mut rest = told.as_bytes();
-    for place in 0..out.len() {
-        match behind(out.get(place), rest) {
-            Some(more) => rest = more,
-            None => return false,
-        }
-    }
-    rest.is_empty()
-}
-
-/// What is left of a text behind what is put out.
-fn behind<'a>(sent: Option<Out<'_>>, text: &'a [u8]) -> Option<&'a [u8]> {
-    match sent? {
-        Out::Line(1, line) => text.strip_prefix(line),
-        Out::Close(1) => text.strip_prefix(b"closed"),
-        _ => None,
-    }
-}
 
 type Handled = Result<(), ServerFault>;
 

@@ -48,4 +48,6 @@ mod spreads;
 #[cfg(test)]
 mod tellings;
 #[cfg(test)]
+mod told;
+#[cfg(test)]
 mod unheard;
