@@ -20,7 +20,8 @@ use Rattle.irc_entrance.specs.Proxying.{signature}
 use Rattle.irc_entrance.specs.Proxying.{IsHeader, tells, wants}
 use Rattle.irc_entrance.specs.declared.proxy_header.ProxyHeader.TheVariants.{Wants, Bad, Unnamed}
 use Rattle.irc_entrance.specs.declared.proxy_header.ProxyHeader.TheVariants.{Names}
-use Rattle.irc_entrance.specs.declared.proxy_line.LineFamily.TheVariants.{Tcp4, Tcp6, Unknown, Other}
+use Rattle.irc_entrance.specs.declared.proxy_line.LineFamily.TheVariants.{Tcp4, Tcp6, Unknown}
+use Rattle.irc_entrance.specs.declared.proxy_line.LineFamily.TheVariants.{Other}
 use Rattle.irc_entrance.specs.declared.proxy_header.HeaderKind.{HeaderKind}
 use Rattle.irc_entrance.specs.declared.proxy_header.HeaderKind.TheVariants.{Line, Bytes, Neither}
 use Rattle.irc_entrance.proofs.ProxyFronts.{first_byte, front_fits, left_true, one_before_end}

@@ -3,7 +3,8 @@ use Rattle.std.proofs.Common.{◌≡◌, ◌∙◌, sym, ap, subst, Some, None, 
 use Rattle.std.proofs.Common.{append_assoc, append-nil, length, map, string_bytes, String}
 use Rattle.std.proofs.lemmas.List.{nil_from_length}
 use Rattle.std.specs.declared.alloc.Global.{Global}
-use Rattle.irc_entrance.specs.Ranges.{AreRanges, IsSomeNoRange, ReadsRange, later, nothing, one_more}
+use Rattle.irc_entrance.specs.Ranges.{AreRanges, IsSomeNoRange, ReadsRange, later, nothing}
+use Rattle.irc_entrance.specs.Ranges.{one_more}
 use Rattle.irc_entrance.specs.Ranges.{this}
 use Rattle.irc_entrance.specs.declared.address_range.AddressRange.{AddressRange}
 

@@ -9,7 +9,8 @@ use Rattle.irc_entrance.specs.ProxyLines.{family_of, is_line, is_port, words_of}
 use Rattle.irc_entrance.specs.Proxying.{kind_of, more_of, signature}
 use Rattle.irc_entrance.specs.Ranges.{before_slash, behind_slash, bits_said, is_within, range_of}
 use Rattle.irc_entrance.specs.declared.proxy_header.HeaderKind.TheVariants.{Neither}
-use Rattle.irc_entrance.specs.declared.proxy_line.LineFamily.TheVariants.{Tcp4, Tcp6, Unknown, Other}
+use Rattle.irc_entrance.specs.declared.proxy_line.LineFamily.TheVariants.{Tcp4, Tcp6, Unknown}
+use Rattle.irc_entrance.specs.declared.proxy_line.LineFamily.TheVariants.{Other}
 
 -- an address of IPv4 by its octets, and one of IPv6 by its first segment, its second and its last
 abbrev pub ipv4 : (a b c d : ℕ) → IpAddr

@@ -13,7 +13,8 @@ use Rattle.std.specs.declared.net.ip_addr.IpAddr.{IpAddr}
 use Rattle.irc_decimals.specs.Numbers.{written_number}
 use Rattle.irc_entrance.specs.declared.proxy_line.LineEnds.{LineEnds}
 use Rattle.irc_entrance.specs.declared.proxy_line.LineFamily.{LineFamily}
-use Rattle.irc_entrance.specs.declared.proxy_line.LineFamily.TheVariants.{Tcp4, Tcp6, Unknown, Other}
+use Rattle.irc_entrance.specs.declared.proxy_line.LineFamily.TheVariants.{Tcp4, Tcp6, Unknown}
+use Rattle.irc_entrance.specs.declared.proxy_line.LineFamily.TheVariants.{Other}
 
 -- ---- where a line ends
 

@@ -31,7 +31,8 @@ impl Model for Crowd {
 }
 
 impl Crowd {
-    ghost use Rattle.irc_entrance.specs.Crowds.{nobody_open, is_let_in, one_more_open, open_without};
+    ghost use Rattle.irc_entrance.specs.Crowds.{nobody_open, is_let_in, one_more_open};
+    ghost use Rattle.irc_entrance.specs.Crowds.{open_without};
 
     /// Nobody, where so many may be open from one address, or any number.
     pub fn new(alloc: Global, most: Option<u16>) -> Self

@@ -1,5 +1,5 @@
-//! Who is let in, and as whom: ranges of addresses, from where nobody comes in; headers of the PROXY
-//! protocol, by which a proxy says for whom it comes; how many are open from one address. Nothing
+//! Who is let in, and as whom: ranges of addresses from where nobody comes in, headers of the PROXY
+//! protocol by which a proxy says for whom it comes, how many are open from one address. Nothing
 //! here knows a socket.
 #![tactic(auto)]
 

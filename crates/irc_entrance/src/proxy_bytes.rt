@@ -2,7 +2,8 @@
 //! (proxy-protocol.txt section 2.2).
 ghost use Rattle.std.specs.Prelude.{◌≡◌, ◌≤◌, true};
 ghost use Rattle.irc_entrance.specs.Proxying.{NamesBy, TellsBy};
-ghost use Rattle.irc_entrance.specs.ProxyBytes.{IsBytes, behind, byte_at, has_ends, ipv4_of, ipv6_of};
+ghost use Rattle.irc_entrance.specs.ProxyBytes.{IsBytes, behind, byte_at, has_ends, ipv4_of};
+ghost use Rattle.irc_entrance.specs.ProxyBytes.{ipv6_of};
 ghost use Rattle.irc_entrance.specs.ProxyBytes.{is_local, is_taken, is_tcp4, is_tcp6, is_whole};
 ghost use Rattle.irc_entrance.specs.ProxyBytes.{more_of_bytes, source_in};
 

@@ -3,7 +3,8 @@
 ghost use Rattle.std.specs.Prelude.{◌≡◌, ◌<◌, ◌∷◌, [], IfSome, MatchOption};
 ghost use Rattle.std.specs.Prelude.{false, length, position, true};
 ghost use Rattle.irc_entrance.specs.Proxying.{NamesBy, TellsBy};
-ghost use Rattle.irc_entrance.specs.ProxyLines.{AreWords, FindsAddress, FindsSource, IsLine, IsNamed};
+ghost use Rattle.irc_entrance.specs.ProxyLines.{AreWords, FindsAddress, FindsSource, IsLine};
+ghost use Rattle.irc_entrance.specs.ProxyLines.{IsNamed};
 ghost use Rattle.irc_entrance.specs.ProxyLines.{IsSource};
 ghost use Rattle.irc_entrance.specs.ProxyLines.{family_of, is_line, is_port, is_space};
 ghost use Rattle.irc_entrance.specs.ProxyLines.{is_unknown, more_of_line, words_of};
