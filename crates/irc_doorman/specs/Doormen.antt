@@ -258,3 +258,25 @@ pub data IsWatched {M : Type 0} (server_of : M → Option View) (handles : Handl
 
 abbrev pub watched_by : {M : Type 0} → (M → Option View) → Handles M → Dues M → Dues (Doorman M)
 watched_by server_of handles dues = due_by (IsWatched server_of handles dues)
+
+-- ---- where nothing is asked
+
+-- nothing is known of any client
+abbrev pub KnowsNobody : {M : Type 0} → Doorman M → Type 0
+KnowsNobody doorman = guest_at doorman.guests ≡ (λ conn. None)
+
+-- where nothing is asked each event is the machine's, and all that is put out is its own
+abbrev pub PassesAll : {M : Type 0} → (M → Option View) → Handles M → Type 0
+PassesAll {M} server_of handles =
+    (old new : Doorman M) (event : Event) (before after : List Sent)
+    → asks_anything old.asks ≡ false → KnowsNobody old
+    → IsAdmitted server_of handles old event before (Ok tt) new after
+    → handles old.machine event before (Ok tt) new.machine after × KnowsNobody new
+
+-- and so is all that is due
+abbrev pub WatchesNobody : {M : Type 0} → (M → Option View) → Handles M → Dues M → Type 0
+WatchesNobody {M} server_of handles dues =
+    (old new : Doorman M) (moment : ℕ) (before after : List Sent) → old.asks.ping_after ≡ None
+    → IsWatched server_of handles dues old moment before (Ok tt) new after
+    → IsDue dues old.machine moment before (Ok tt) new.machine after
+    × (guest_at new.guests ≡ guest_at old.guests)
