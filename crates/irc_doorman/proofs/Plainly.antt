@@ -60,8 +60,8 @@ nobody_behind : (asks : Asks) (moment : ℕ) (event : Event) (guests : Guests)
     → asks_anything asks ≡ false → ((conn : ℕ) → guests conn ≡ None) → (q : ℕ)
     → guests_behind asks moment event guests q ≡ None
 nobody_behind asks moment (Connect conn host) guests off empty q =
-    not_new (asks_anything asks) (with_guest conn (Some (new_guest asks moment)) guests) guests q off
-    (empty q)
+    not_new (asks_anything asks) (with_guest conn (Some (new_guest asks moment)) guests) guests q
+    off (empty q)
 nobody_behind asks moment (Line conn line) guests off empty q =
     still_none (nat_eq conn q) _ (guests q) (empty q)
 nobody_behind asks moment (Gone conn) guests off empty q =
