@@ -11,6 +11,7 @@ use Rattle.irc_server.specs.declared.event.ServerFault.{ServerFault}
 use Rattle.irc_engine.specs.Machines.{is_out_of_memory, due_by, never_due, Dues, Handles}
 use Rattle.irc_door.specs.declared.door.Door.{Door}
 use Rattle.irc_door.specs.declared.manner.Manner.{Manner}
+use Rattle.irc_door.specs.declared.motd.Motd.{Motd}
 use Rattle.irc_door.specs.Capabilities.{asked_of, Asked}
 use Rattle.irc_door.specs.Manners.{is_plain, written_to}
 
@@ -35,6 +36,10 @@ IsPlainly = (manner : Manner) → is_plain manner ≡ true → (event : Event) (
 -- the server behind a door is its machine's
 abbrev pub server_behind : {M : Type 0} → (M → Option View) → Door M → Option View
 server_behind server_of door = server_of door.machine
+
+-- it speaks as before, with another message of the day or with none
+abbrev pub announcing : {M : Type 0} → Option Motd → Door M → Door M
+announcing motd door = record door { manner = record door.manner { motd = motd } }
 
 -- What may come of an event: it is handled, and what is put out is said; it is refused as the
 -- machine refuses it, and nothing is put out; or memory runs out.

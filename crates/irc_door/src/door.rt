@@ -4,6 +4,7 @@ ghost use Rattle.irc_engine.specs.Machines.{IsConnectedBy, IsRefusal};
 
 use crate::capabilities::asked_of;
 use crate::manner::Manner;
+use crate::motd::Motd;
 use crate::saying::put_said;
 use irc_batch::Batch;
 use irc_engine::Machine;
@@ -23,6 +24,8 @@ pub struct Door<M: Machine> {
 }
 
 impl<M: Machine> Door<M> {
+    ghost use Rattle.irc_door.specs.Doors.{announcing};
+
     /// A door in front of a machine, which speaks so.
     pub fn new(alloc: Global, machine: M, manner: Manner) -> Self
         ensures machine { result.machine ≡ machine }
@@ -34,6 +37,13 @@ impl<M: Machine> Door<M> {
             held: Batch::new(alloc),
             alloc,
         }
+    }
+
+    /// From now on this is the message of the day, or there is none.
+    pub fn announce(&mut self, motd: Option<Motd>)
+        ensures { self.new ≡ announcing motd self.old }
+    {
+        self.manner.motd = motd;
     }
 }
 

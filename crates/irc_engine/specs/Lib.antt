@@ -8,6 +8,7 @@ pub mod Machines
 pub mod Running
 pub mod Moments
 pub mod EngineView
+pub mod Altering
 pub mod Turning
 pub mod Telling
 pub mod Loops

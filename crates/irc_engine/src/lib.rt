@@ -2,6 +2,7 @@
 //! sockets.
 #![tactic(auto)]
 
+mod altering;
 mod boxed_framer;
 mod connection_table;
 mod connections;
@@ -13,5 +14,6 @@ mod noting;
 mod outbox_pool;
 mod telling;
 
+pub use altering::Alteration;
 pub use engine::{Engine, EngineFault};
 pub use machine::Machine;

@@ -32,7 +32,10 @@ impl<W: Wire, M: Machine> Engine<W, M> {
     }
 
     /// Takes one turn, and says what there is to tell.
-    fn turn_telling<E: Write>(&mut self, errors: &mut E) -> Result<(), EngineFault>
+    ///
+    /// # Errors
+    /// As [`Engine::turn`].
+    pub fn turn_telling<E: Write>(&mut self, errors: &mut E) -> Result<(), EngineFault>
         ensures { TellsTurnedBy W.is_after M.server_of M.handles M.dues (engine_view self.old)
             (engine_view self.new)
             (E.contents errors.old) (E.contents errors.new) result }
@@ -40,6 +43,11 @@ impl<W: Wire, M: Machine> Engine<W, M> {
         let turned = self.turn();
         self.tell(errors);
         turned
+    }
+
+    /// The moment at which the last turn began, by the wire's clock.
+    pub fn moment(&self) -> Moment {
+        self.core.connections.wire.moment()
     }
 
     /// Says what there is to tell of links, and what the wire has to tell; the wire is told which

@@ -17,6 +17,10 @@ pub record Crowded : Type 0 where
 abbrev pub nobody_open : Option ℕ → Crowded
 nobody_open most = record { comers = []; most = most }
 
+-- from now on another number may be
+abbrev pub limited_to : Option ℕ → Crowded → Crowded
+limited_to most crowd = record crowd { most = most }
+
 -- ---- addresses
 
 -- the address of IPv6 that stands for one of IPv4, ::ffff:a.b.c.d (RFC 4291 section 2.5.5.2)

@@ -32,7 +32,7 @@ impl Model for Crowd {
 
 impl Crowd {
     ghost use Rattle.irc_entrance.specs.Crowds.{nobody_open, is_let_in, one_more_open};
-    ghost use Rattle.irc_entrance.specs.Crowds.{open_without};
+    ghost use Rattle.irc_entrance.specs.Crowds.{limited_to, open_without};
 
     /// Nobody, where so many may be open from one address, or any number.
     pub fn new(alloc: Global, most: Option<u16>) -> Self
@@ -42,6 +42,21 @@ impl Crowd {
             comers: Vec::new(alloc),
             most,
         }
+    }
+
+    /// So many may be open from one address from now on, or any number; whoever is there stays.
+    pub fn limit_to(&mut self, most: Option<u16>)
+        ensures { self.new ≡ limited_to most self.old }
+    {
+        self.most = most;
+    }
+
+    /// Nobody is open as far as it knows, where so many may be from now on, or any number.
+    pub fn begin_anew(&mut self, most: Option<u16>)
+        ensures { self.new ≡ nobody_open most }
+    {
+        self.comers.clear();
+        self.most = most;
     }
 
     /// Whether one more connection from an address is let in.

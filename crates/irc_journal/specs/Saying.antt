@@ -6,6 +6,8 @@ use Rattle.irc_journal.specs.declared.journal.Journal.{Journal}
 use Rattle.irc_journal.specs.declared.tidings.Tidings.{Tidings}
 use Rattle.irc_journal.specs.Lines.{connections_line, shown_host, IsLineOf}
 use Rattle.irc_journal.specs.Pace.{count_if, rows_if}
+use Rattle.irc_journal.specs.declared.rereading.Rereading.{Rereading}
+use Rattle.irc_journal.specs.Rereadings.{rereading_line, restart_line}
 
 -- a front of this line was said, which may be all of it, or nothing
 pub record IsFrontSaid (line : List ℕ) (old new : Option (List ℕ)) : Type 0 where
@@ -58,11 +60,13 @@ AreTold moment (told ∷ others) old new held after =
 
 -- ---- whatever is said
 
--- a line of a link, or that connections can be taken or not
+-- a line of a link, that connections can be taken or not, or of a configuration that is read again
 pub data IsJournalLine (line : List ℕ) : Type 0 where
   of_link : (told : Tidings) (host : Option (List ℕ)) (more : ℕ) → IsLineOf told host more line
       → IsJournalLine line
   of_connections : (are_taken : Bool) → line ≡ connections_line are_taken → IsJournalLine line
+  of_rereading : (what : Rereading) → line ≡ rereading_line what → IsJournalLine line
+  of_restart : (key : List ℕ) → line ≡ restart_line key → IsJournalLine line
 
 -- one line is said, and then others
 pub record SaysFirst (line : List ℕ) (old : Option (List ℕ))

@@ -1,3 +1,4 @@
 pub mod Configuration
+pub mod Fixed
 pub mod Keys
 pub mod Loops

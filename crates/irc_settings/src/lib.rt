@@ -3,12 +3,14 @@
 
 mod fault;
 mod finding;
+mod fixed;
 mod pace;
 mod peers;
 mod settings;
 mod texts;
 
 pub use fault::SettingsFault;
+pub use fixed::{FixedKey, fixed_keys};
 pub use settings::{LinesPace, PeerSettings, Settings, read_settings};
 
 /// The least number of bytes that may wait for a client or a link: one line's (our own choice).

@@ -6,6 +6,7 @@ mod clock;
 mod door;
 mod host;
 mod keep_alive;
+mod limits;
 mod listen_fault;
 mod listening;
 mod mio_wire;
@@ -14,6 +15,7 @@ mod sockets;
 mod tokens;
 
 pub use calls::Callee;
+pub use limits::Limits;
 pub use listen_fault::ListenFault;
 pub use listening::Listening;
 pub use mio_wire::MioWire;

@@ -2,13 +2,14 @@
 ghost use Rattle.std.specs.Prelude.{◌≡◌, ⊤, ◌≤◌, length, IfErr, IfOk};
 ghost use Rattle.irc_outbox.specs.Calls.{Call, asks, reads, writes, closes, bytes_got, Adds};
 ghost use Rattle.irc_outbox.specs.Calls.{FitsIn, Keeps};
-ghost use Rattle.irc_sockets.specs.Listening.{IsFaultOf, ListensAt};
+ghost use Rattle.irc_sockets.specs.Listening.{IsFaultOf, IsLimited, ListensAt};
 
 use crate::calls::{Callee, Calls};
 use crate::clock::clock_time;
 use crate::door::Door;
 use crate::host::host_of;
 use crate::keep_alive::{ask_after, narrow};
+use crate::limits::Limits;
 use crate::listen_fault::ListenFault;
 use crate::listening::Listening;
 use crate::proxied::Proxied;
@@ -88,6 +89,7 @@ impl MioWire {
             Some(address) => Some(Door::open(net, address, poll.registry(), Token(LINKS))?),
             None => None,
         };
+        let limits = listening.limits;
         let now = Moment::of(0).behind(clock_time());
         let calls = Calls::begin(alloc, callees, spread, poll.registry(), now)?;
         Ok(MioWire {
@@ -97,22 +99,37 @@ impl MioWire {
             links,
             calls,
             entrance: Entrance {
-                deny: listening.deny,
-                proxies: listening.proxies,
+                deny: limits.deny,
+                proxies: limits.proxies,
             },
             proxied: Proxied::new(alloc),
             sockets: Sockets::new(
                 alloc,
                 Marks::of(listening.client_room, listening.link_room),
-                listening.pace,
+                limits.pace,
             ),
-            crowd: Crowd::new(alloc, listening.connections_per_address),
-            unnamed: Crowd::new(alloc, listening.links_per_address),
+            crowd: Crowd::new(alloc, limits.connections_per_address),
+            unnamed: Crowd::new(alloc, limits.links_per_address),
             strangers: Strangers::new(alloc, listening.name_within),
             newcomers: Newcomers::new(alloc, listening.register_within),
             signals: Signals::new(now),
             round: Round::new(now),
         })
+    }
+
+    /// From now on this is who comes in, and how much of each is taken. Nobody is closed, and the
+    /// clients that are connected count; one for which there is no memory does not.
+    pub fn limit_to(&mut self, limits: Limits)
+        ensures { IsLimited limits self.old self.new }
+    {
+        self.entrance = Entrance {
+            deny: limits.deny,
+            proxies: limits.proxies,
+        };
+        self.unnamed.limit_to(limits.links_per_address);
+        self.sockets.talkers.keep_to(limits.pace);
+        self.crowd.begin_anew(limits.connections_per_address);
+        count_clients(&self.sockets, &mut self.crowd);
     }
 
     /// The address on which it listens for clients.
@@ -418,6 +435,17 @@ impl MioWire {
         }
         self.round.report_one();
         self.sockets.report(&mut self.round).unwrap_or(Ready::Idle)
+    }
+}
+
+/// Each client that is connected is noted as open from its address, as long as there is memory.
+fn count_clients(sockets: &Sockets, crowd: &mut Crowd)
+    ensures { crowd.new.most ≡ crowd.old.most }
+{
+    for number in 0..sockets.len() {
+        if let Some(address) = sockets.client_address(number) {
+            let _uncounted = crowd.note(number as u64, address);
+        }
     }
 }
 

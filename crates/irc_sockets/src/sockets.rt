@@ -22,6 +22,7 @@ struct Socket {
     stream: TcpStream,
     /// From where the connection is.
     address: IpAddr,
+    is_client: bool,
 }
 
 /// A connection that was closed, and from where it was.
@@ -63,7 +64,12 @@ impl Sockets {
         now: Moment,
     ) -> Option<usize> {
         let number = self.talkers.add(is_client, now).ok()?;
-        if self.put(number, Socket { stream, address }).is_none() {
+        let socket = Socket {
+            stream,
+            address,
+            is_client,
+        };
+        if self.put(number, socket).is_none() {
             self.talkers.remove(number);
             return None;
         }
@@ -83,6 +89,19 @@ impl Sockets {
     pub fn stream(&mut self, number: usize) -> Option<&mut TcpStream> {
         let socket = self.by_number.get_mut(number)?.as_mut()?;
         Some(&mut socket.stream)
+    }
+
+    /// Above all numbers that sockets have.
+    pub fn len(&self) -> usize {
+        self.by_number.len()
+    }
+
+    /// From where the client under a number is, if there is one.
+    pub fn client_address(&self, number: usize) -> Option<IpAddr> {
+        match self.by_number.get(number) {
+            Some(Some(socket)) if socket.is_client => Some(socket.address),
+            _ => None,
+        }
     }
 
     /// From where a connection is, or was that was closed in this turn.

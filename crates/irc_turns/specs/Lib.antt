@@ -3,6 +3,7 @@ pub mod Arriving
 pub mod Fronts
 pub mod Gathering
 pub mod HeldBack
+pub mod Lookouts
 pub mod Marks
 pub mod Naming
 pub mod Numbered

@@ -40,6 +40,10 @@ pub record NumberedTalkers : Type 0 where
   pub count : ℕ
   pub pace : Option LinesPace
 
+-- clients keep to another pace from now on, or to none
+abbrev pub kept_to : Option LinesPace → NumberedTalkers → NumberedTalkers
+kept_to pace talkers = record talkers { pace = pace }
+
 -- there is room for each talker in the queue, and among those for whom far too much waits
 pub record HasRoom (by_number : Slab Talker) (queue full : Queued) : Type 0 where
   pub in_queue : length by_number.slots ≤ queue.room

@@ -6,6 +6,7 @@
 mod allowance;
 mod arrivals;
 mod holding;
+mod lookout;
 mod marks;
 mod newcomers;
 mod pace;
@@ -25,6 +26,7 @@ mod waits;
 
 pub use allowance::{LinesPace, fronts_begin_so_many, lines_are_counted, pace_is_kept};
 pub use arrivals::Arrivals;
+pub use lookout::Lookout;
 pub use marks::Marks;
 pub use newcomers::Newcomers;
 pub use retries::Retries;

@@ -16,7 +16,7 @@ ghost use Rattle.irc_turns.specs.Numbered.{talker_mark, mark_of_one, turn_ended,
 ghost use Rattle.irc_turns.specs.Numbered.{reason_for, grown_reason, full_reason, filled_reason};
 ghost use Rattle.irc_turns.specs.Numbered.{is_grown, is_filled, IsHeldFor, ReportsFirst, LetsGo};
 ghost use Rattle.irc_turns.specs.Numbered.{is_due, tried_for, wants_signal_one, LetsGoAt};
-ghost use Rattle.irc_turns.specs.Numbered.{lines_allowed_at, paced_reason, is_paced};
+ghost use Rattle.irc_turns.specs.Numbered.{lines_allowed_at, paced_reason, is_paced, kept_to};
 
 use crate::allowance::LinesPace;
 use crate::holding::{Held, Holding, Reason};
@@ -95,6 +95,13 @@ impl Talkers {
             pace,
             alloc,
         }
+    }
+
+    /// Clients keep to this pace from now on, or to none.
+    pub fn keep_to(&mut self, pace: Option<LinesPace>)
+        ensures { self.new ≡ kept_to pace self.old }
+    {
+        self.pace = pace;
     }
 
     /// How many are to be reported.

@@ -1,7 +1,7 @@
 //! Wires of TCP sockets on the loopback address, and what they report.
 use irc_names::ServerName;
 use irc_outbox::{Ready, Wire};
-use irc_sockets::{Callee, Listening, MioWire};
+use irc_sockets::{Callee, Limits, Listening, MioWire};
 use std::alloc::Global;
 use std::net::{SocketAddr, TcpStream};
 use std::time::Duration;
@@ -32,15 +32,17 @@ fn listening(
     Listening {
         clients,
         links,
-        connections_per_address,
         client_room: ROOM,
         link_room: ROOM,
         name_within: None,
-        links_per_address: None,
         register_within: None,
-        pace: None,
-        deny: Vec::new(alloc),
-        proxies: Vec::new(alloc),
+        limits: Limits {
+            connections_per_address,
+            links_per_address: None,
+            pace: None,
+            deny: Vec::new(alloc),
+            proxies: Vec::new(alloc),
+        },
     }
 }
 
