@@ -86,6 +86,7 @@ impl Crowd {
     pub fn note(&mut self, number: u64, address: IpAddr) -> Result<(), AllocError>
         ensures noted { OnOk result (self.new ≡ one_more_open number address self.old) }
         ensures none { OnErr result (self.new ≡ self.old) }
+        ensures most { self.new.most ≡ self.old.most }
     {
         if self.most.is_none() {
             return Ok(());

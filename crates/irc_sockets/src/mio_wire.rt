@@ -443,9 +443,16 @@ fn count_clients(sockets: &Sockets, crowd: &mut Crowd)
     ensures { crowd.new.most ≡ crowd.old.most }
 {
     for number in 0..sockets.len() {
-        if let Some(address) = sockets.client_address(number) {
-            let _uncounted = crowd.note(number as u64, address);
-        }
+        count_client(sockets, number, crowd);
+    }
+}
+
+/// So is the client under a number, if there is one.
+fn count_client(sockets: &Sockets, number: usize, crowd: &mut Crowd)
+    ensures { crowd.new.most ≡ crowd.old.most }
+{
+    if let Some(address) = sockets.client_address(number) {
+        let _uncounted = crowd.note(number as u64, address);
     }
 }
 
