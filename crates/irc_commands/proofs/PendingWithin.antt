@@ -1,10 +1,11 @@
 -- What a connection gives before it is registered keeps to the limits, and it is added as a user
 -- that other servers can be told of.
-use Rattle.std.proofs.Common.{◌≡◌, ◌≢◌, ℕ, ◌≤◌, Bool, true, false, cond, not, Option, Some, None}
+use Rattle.std.proofs.Common.{◌≡◌, ◌≢◌, ℕ, ◌≤◌, true, false, cond, not, Option, Some, None}
 use Rattle.std.proofs.Common.{List, [], ◌∷◌, length, take, map, refl, sym, ap, subst, arith}
 use Rattle.std.proofs.lemmas.List.{length-take, take_all}
 use Rattle.std.specs.List.{AllByRecursion}
 use Rattle.std.specs.Option.{IfSome}
+use Rattle.std.proofs.lemmas.Bool.{not-false}
 use Rattle.irc_line.specs.Carried.{IsCarried}
 use Rattle.irc_line.specs.Lines.{earlier_pieces}
 use Rattle.irc_line.specs.Messages.{IsPlainWord}
@@ -36,10 +37,6 @@ use Rattle.irc_commands.specs.OwnLines.{is_from}
 -- what is given now keeps to the limits, and what is done can be sent
 abbrev IsGood : Room → Registered → Type 0
 IsGood room r = IsPendingWithin r.pending × AreSendable room r.steps
-
-not_so : (b : Bool) → not b ≡ false → b ≡ true
-not_so true e = refl
-not_so false e = cc
 
 -- ---- what is made of the words of a USER
 
@@ -125,7 +122,7 @@ module _ (room : Room) (place : Place) (server : IsServer place.name) where
       (cond (has_user room nickname) in_use chosen) (λ erroneous. (within, tt))
       (λ fine. by_test (IsGood room) (has_user room nickname) in_use chosen (λ taken. (within, tt))
       (λ free. completing (record pending { nick = Some nickname }) (record {
-        nick = not_so (is_nick nickname) fine;
+        nick = not-false (is_nick nickname) fine;
         name = within.name;
         real_fits = within.real_fits;
         real_carried = within.real_carried;

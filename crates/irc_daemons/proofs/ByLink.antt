@@ -9,6 +9,7 @@ use Rattle.std.proofs.Math.Seq.{drop-nil, take-nil}
 use Rattle.std.specs.FinMap.{get}
 use Rattle.std.specs.List.{AllByRecursion, slice_get}
 use Rattle.std.specs.Option.{option_and_then}
+use Rattle.std.proofs.lemmas.Option.{same_Some}
 use Rattle.arrayvec.specs.ArrayVec.{ArrayVec}
 use Rattle.irc_line.specs.Laws.{PiecesCompleteTheSame}
 use Rattle.irc_line.specs.Lines.{Begun, begun_behind, completed, nothing_begun}
@@ -59,7 +60,7 @@ use Rattle.irc_daemons.proofs.Given.{Went}
 use Rattle.irc_daemons.proofs.Heard.{none_stays}
 use Rattle.irc_daemons.proofs.Listening.{IsToldOf, Listens, its_line, listened, listening}
 use Rattle.irc_daemons.proofs.Listening.{listens_both, no_line}
-use Rattle.irc_daemons.proofs.Lists.{drop_front, inside, rest_none, set_elsewhere, set_here}
+use Rattle.irc_daemons.proofs.Lists.{drop_front, rest_none, set_elsewhere, set_here}
 use Rattle.irc_daemons.proofs.Lists.{take_front}
 use Rattle.irc_daemons.proofs.Open.{open_of}
 use Rattle.irc_daemons.proofs.ReadParts.{IsReading, part_reads}
@@ -770,4 +771,4 @@ module _ {W : Type 0} (is_after : W → List Call → Type 0) (pieces : PiecesCo
         (link_followed names kind.0.from place net new
         (bytes_came is_after pieces lines_end own_law stay alike_law names place old new net step
         kind.0 kind.1 links told same
-        (λ x y name one other. inside x y (sym (placed x name one) ∙ placed y name other))))
+        (λ x y name one other. same_Some x y (sym (placed x name one) ∙ placed y name other))))

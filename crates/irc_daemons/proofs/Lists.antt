@@ -1,18 +1,8 @@
 -- Lists at a place, and lists that are empty.
 use Rattle.std.proofs.Common.{◌≡◌, ℕ, zero, suc, Bool, true, false, nat_eq, Some, List, [], ◌∷◌}
-use Rattle.std.proofs.Common.{◌++◌, length, take, drop, refl, sym, ◌∙◌, ap, map, option_map}
-use Rattle.std.proofs.Common.{unwrap_or}
+use Rattle.std.proofs.Common.{◌++◌, length, take, drop, refl, sym, ◌∙◌, ap}
 use Rattle.std.proofs.lemmas.Bool.{eq-eqb, eqb-true}
 use Rattle.std.specs.List.{slice_get, slice_set, AllByRecursion}
-
-pub turned : (a b : ℕ) → nat_eq a b ≡ nat_eq b a
-turned a b = by (nat_eq a b) (nat_eq b a) refl refl
-  where
-    by : (x y : Bool) → nat_eq a b ≡ x → nat_eq b a ≡ y → x ≡ y
-    by true true one other = refl
-    by true false one other = sym (eq-eqb b a (sym (eqb-true a b one))) ∙ other
-    by false true one other = sym one ∙ eq-eqb a b (sym (eqb-true b a other))
-    by false false one other = refl
 
 pub one_before : (x y : ℕ) → nat_eq (suc x) (suc y) ≡ false → nat_eq x y ≡ false
 one_before x y two = by (nat_eq x y) refl
@@ -34,12 +24,6 @@ set_elsewhere (first ∷ xs) zero zero new two = cc two
 set_elsewhere (first ∷ xs) zero (suc x) new two = refl
 set_elsewhere (first ∷ xs) (suc n) zero new two = refl
 set_elsewhere (first ∷ xs) (suc n) (suc x) new two = set_elsewhere xs n x new (one_before x n two)
-
-pub get_map : {A B : Type 0} (f : A → B) (xs : List A) (n : ℕ)
-    → slice_get (map f xs) n ≡ option_map f (slice_get xs n)
-get_map f [] n = refl
-get_map f (x ∷ xs) zero = refl
-get_map f (x ∷ xs) (suc n) = get_map f xs n
 
 pub front_none : {A : Type 0} (xs ys : List A) → xs ++ ys ≡ [] → xs ≡ []
 front_none [] ys none = refl
@@ -67,6 +51,3 @@ take_front (x ∷ xs) ys = ap (λ zs. x ∷ zs) (take_front xs ys)
 pub drop_front : (xs ys : List ℕ) → drop (length xs) (xs ++ ys) ≡ ys
 drop_front [] ys = refl
 drop_front (x ∷ xs) ys = drop_front xs ys
-
-pub inside : {A : Type 0} (x y : A) → Some x ≡ Some y → x ≡ y
-inside x y is = ap (λ o. unwrap_or o x) is

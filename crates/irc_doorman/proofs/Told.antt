@@ -3,6 +3,7 @@ use Rattle.std.proofs.Common.{◌≡◌, ℕ, Bool, true, false, not, ◌&&◌, 
 use Rattle.std.proofs.Common.{List, [], ◌∷◌, ◌++◌, refl, sym, ◌∙◌, ap, append_assoc}
 use Rattle.std.proofs.lemmas.Bool.{eqb-true}
 use Rattle.std.proofs.lemmas.List.Folds.{list_any-append}
+use Rattle.std.proofs.Math.Bool.{or-false}
 use Rattle.arrayvec.specs.ArrayVec.{ArrayVec}
 use Rattle.irc_batch.specs.Batches.{Sent, end_of, line_to}
 use Rattle.irc_line.specs.Messages.{text}
@@ -26,10 +27,6 @@ use Rattle.irc_doorman.specs.Texts.{bad_password, closing}
 
 -- ---- booleans
 
-or_false : (b : Bool) → (b || false) ≡ b
-or_false true = refl
-or_false false = refl
-
 left_or_closed : (a t x : Bool)
     → ((a || false) && not (t || x)) ≡ ((a || false) && not (x || (t || false)))
 left_or_closed a true true = refl
@@ -48,12 +45,12 @@ module _ (event : Event) (was new : View) (x more : List Sent)
     (no_client : (q : ℕ) → is_client_ended q more ≡ false)
     (no_link : (q : ℕ) → is_link_ended q more ≡ false) where
   client_as : (q : ℕ) → is_client_ended q x ≡ is_client_ended q (x ++ more)
-  client_as q = sym (or_false (is_client_ended q x))
+  client_as q = sym (or-false (is_client_ended q x))
       ∙ ap (λ b. is_client_ended q x || b) (sym (no_client q))
       ∙ sym (list_any-append (ends_client q) x more)
 
   link_as : (q : ℕ) → is_link_ended q x ≡ is_link_ended q (x ++ more)
-  link_as q = sym (or_false (is_link_ended q x))
+  link_as q = sym (or-false (is_link_ended q x))
       ∙ ap (λ b. is_link_ended q x || b) (sym (no_link q))
       ∙ sym (list_any-append (ends_link q) x more)
 
@@ -98,11 +95,11 @@ module _ (conn : ℕ) (line : ArrayVec ℕ) (one other : List ℕ) where
         (sym (list_any-append (ends_client q) x last));
     links = λ q. by.links q
         ∙ ap (λ t. (has_link was q || false) && not t)
-        (sym (or_false (is_link_ended q x)) ∙ sym (list_any-append (ends_link q) x last));
+        (sym (or-false (is_link_ended q x)) ∙ sym (list_any-append (ends_link q) x last));
     clients_were_there = λ q ended. was_there q (nat_eq conn q) refl
         (sym (list_any-append (ends_client q) x last) ∙ ended);
     links_were_there = λ q ended. by.links_were_there q
-        (sym (or_false (is_link_ended q x)) ∙ sym (list_any-append (ends_link q) x last) ∙ ended);
+        (sym (or-false (is_link_ended q x)) ∙ sym (list_any-append (ends_link q) x last) ∙ ended);
   }
     where
       was_there : (q : ℕ) (t : Bool) → nat_eq conn q ≡ t

@@ -6,6 +6,7 @@ use Rattle.std.proofs.lemmas.List.Folds.{list_any-append}
 use Rattle.std.specs.List.{list_any}
 use Rattle.std.specs.Option.{option_and_then, option_map_or}
 use Rattle.std.specs.FinMap.{entries, keys, retain_keys}
+use Rattle.std.proofs.lemmas.Bool.{not-false}
 use Rattle.irc_names.specs.Fold.{key}
 use Rattle.irc_names.specs.GreaterLaws.{greater_with_itself}
 use Rattle.irc_names.specs.Tables.{Table, row, each, both}
@@ -175,20 +176,16 @@ module _ {X : Type 0} (table : Table X) (gone other : List ℕ → Bool)
   kept_there = retain_keys-alike table gone (λ q. not (other q))
       (λ q there. turned (gone q) (other q) (apart q there))
 
-  not_false : (b : Bool) → not b ≡ false → b ≡ true
-  not_false true is = refl
-  not_false false is = sym is
-
   -- a side that keeps nothing, and one that keeps all
   pub all_far : is_nil (keys near) ≡ true → far ≡ table
   all_far none = whole_kept table (λ q. not (other q)) (λ q there.
       ap not (apart q there)
       ∙ ap (λ b. not (not b))
-      (not_false (gone q) (none_kept table (λ q. not (gone q)) none q there)))
+      (not-false (gone q) (none_kept table (λ q. not (gone q)) none q there)))
 
   pub all_near : is_nil (keys far) ≡ true → near ≡ table
   all_near none = whole_kept table (λ q. not (gone q)) (λ q there.
-      sym (apart q there) ∙ not_false (other q) (none_kept table (λ q. not (other q)) none q there))
+      sym (apart q there) ∙ not-false (other q) (none_kept table (λ q. not (other q)) none q there))
 
   pub some_side : {A : Type 0} → is_nil (keys table) ≡ false → is_nil (keys near) ≡ true
       → is_nil (keys far) ≡ true → A

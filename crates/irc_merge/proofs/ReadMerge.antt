@@ -7,6 +7,7 @@ use Rattle.std.specs.Option.{option_map_or, option_and_then}
 use Rattle.std.specs.FinMap.{empty, entries, entries_sorted, values, retain_keys, find, is_sorted}
 use Rattle.std.specs.FinMap.{get-empty, get-entries}
 use Rattle.std.specs.FinMap.Entries.{below_all}
+use Rattle.irc_names.specs.Lemmas.PlainFacts.{is_true}
 use Rattle.irc_names.specs.Fold.{key}
 use Rattle.irc_names.specs.Tables.{Table, fold_cmp, row, both}
 use Rattle.irc_names.specs.TableLaws.{same_fold, one_fold, same_table, row-alter, row-each}
@@ -22,7 +23,7 @@ use Rattle.irc_merge.specs.Bursts.{burst, user_deeds, channel_deeds, home_passes
 use Rattle.irc_merge.specs.Merge.{clash, room_without, either, joined_channel, merge, uninvited}
 use Rattle.irc_merge.specs.Merge.{channel_uninvited}
 use Rattle.irc_merge.specs.Laws.{AreApart, CanBeTold, BurstReadIsMerge}
-use Rattle.irc_merge.specs.Lemmas.TableWords.{true_is, row-kept, absent, first_there, above_first}
+use Rattle.irc_merge.specs.Lemmas.TableWords.{row-kept, absent, first_there, above_first}
 use Rattle.irc_merge.specs.Lemmas.TableWords.{entries_all, values_each}
 use Rattle.irc_merge.specs.Lemmas.Quitting.{among, peopled, thinned}
 use Rattle.irc_merge.specs.Lemmas.Clashing.{clashing, users_without, channels_without, without_well}
@@ -255,7 +256,7 @@ module _ (far : List ℕ → Bool) (room other : Room) (well : IsWellFormed room
       let met = reads own far room (user_deeds other) in
       let here : met.channels ≡ (room_without room other).channels =
       channels_introduced own far room other well well_other in
-      let rise = true_is _ (entries_sorted other.channels) in
+      let rise = is_true _ (entries_sorted other.channels) in
       let read = channels_read own server (entries other.channels) rise
       (entries_all IsRead (entries other.channels)
       (λ q channel is.

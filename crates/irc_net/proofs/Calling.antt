@@ -37,6 +37,7 @@ use Rattle.irc_network.specs.Refusing.{way_fault}
 use Rattle.irc_net.specs.Views.{answers_now, counted_now, delivered_now}
 use Rattle.irc_network.specs.Views.{receipts_of}
 use Rattle.std.specs.Global.{Vec}
+use Rattle.std.proofs.Math.Numerals.{suc-eq-add-one}
 
 -- ---- memory runs out
 
@@ -259,12 +260,8 @@ pub plays_on : {first between last : NetView} (steps : List Step) (answers more 
     → IsStep between step answer last → slice_get steps i ≡ Some step
     → more ≡ answers ++ answer ∷ [] → PlaysSteps first (take (i + 1) steps) more last
 plays_on {first = first} {last = last} steps answers more i step answer plays done is behind =
-    subst (λ n. PlaysSteps first (take n steps) more last) (counted_on i)
+    subst (λ n. PlaysSteps first (take n steps) more last) (suc-eq-add-one i)
     (then_one step answer plays done (taken_on steps i step is) behind)
-  where
-    counted_on : (n : ℕ) → suc n ≡ n + 1
-    counted_on n = omega arith
-
 pub stops : {first between last : NetView} (steps : List Step) (answers : List StepAnswer)
     (i : ℕ) (step : Step) (fault : NetFault) → PlaysSteps first (take i steps) answers between
     → slice_get steps i ≡ Some step → IsStepDone between step (Err fault) last

@@ -1,5 +1,5 @@
 -- The front of bytes that is so many lines, piece by piece.
-use Rattle.std.proofs.Common.{◌≡◌, ℕ, ◌+◌, ◌-◌, ◌<◌, ◌≤◌, Bool, true, false, ◌||◌, max, nat_lt}
+use Rattle.std.proofs.Common.{◌≡◌, ℕ, ◌+◌, ◌-◌, ◌<◌, ◌≤◌, true, false, ◌||◌, max, nat_lt}
 use Rattle.std.proofs.Common.{Option, Some, None, List, [], ◌++◌, length, take, drop, get_or, refl}
 use Rattle.std.proofs.Common.{sym, ◌∙◌, ap, subst, arith, length-append, length-drop}
 use Rattle.std.specs.List.{prefix_len}
@@ -7,6 +7,7 @@ use Rattle.std.proofs.lemmas.List.{get_or-drop}
 use Rattle.std.proofs.lemmas.List.Sums.{prefix_len_passes, prefix_len_stops}
 use Rattle.std.proofs.Math.Seq.{take-add}
 use Rattle.std.proofs.lemmas.Bool.{lt-ltb, le-ltb, ltb-true, ltb-false}
+use Rattle.std.proofs.Math.Bool.{or-true}
 use Rattle.arrayvec.specs.ArrayVec.{ArrayVec}
 use Rattle.irc_line.specs.Bytes.{is_line_end, cut}
 use Rattle.irc_line.specs.Framed.{found_in}
@@ -89,10 +90,6 @@ no_fewer_in law bytes ended ends =
     subst (λ stream. lines_in bytes ended ≤ length (lines stream)) (sym (take-add ended ends bytes))
     (no_fewer law (take ended bytes) (take ends (drop ended bytes)))
 
-or_true : (b : Bool) → (b || true) ≡ true
-or_true true = refl
-or_true false = refl
-
 -- a byte before the first that ends no line, and that one
 end_there : (bytes : List ℕ) (ended ends : ℕ) → ends ≡ prefix_len is_line_end (drop ended bytes)
     → (place : ℕ) → ended ≤ place → place < ended + ends → is_line_end (get_or bytes place 0) ≡ true
@@ -134,7 +131,7 @@ front_is law wanted bytes piece ended ends stops rest ends_are within =
             | false ↦ λ (e : nat_lt place ended ≡ false).
                 ap (λ b. nat_lt (lines_in bytes place) (max wanted 1) || b)
                 (end_there bytes ended ends ends_so place (ltb-false place ended e) below)
-                ∙ or_true (nat_lt (lines_in bytes place) (max wanted 1))
+                ∙ or-true (nat_lt (lines_in bytes place) (max wanted 1))
           ] refl;
       behind = λ further.
           ap (λ b. b || is_line_end (get_or bytes (ended + ends) 0))

@@ -11,6 +11,7 @@ use Rattle.std.specs.FinMap.Entries.{below_all}
 use Rattle.std.specs.List.{cons_option, flat_map, list_any}
 use Rattle.std.specs.Option.{option_map_or}
 use Rattle.std.specs.Ordering.{nat_cmp}
+use Rattle.irc_names.specs.Lemmas.PlainFacts.{is_true}
 use Rattle.irc_batch.specs.Batches.{Sent}
 use Rattle.irc_line.specs.Messages.{Written, line_text, text}
 use Rattle.irc_room.specs.effect.Effect.{Effect}
@@ -29,14 +30,10 @@ use Rattle.irc_stage.specs.Lemmas.Numbers.{one_number, same_number, same_number-
 use Rattle.irc_follow.specs.Says.{body, line_on_link, lines_on}
 use Rattle.irc_follow.specs.Lemmas.ToldClients as told_to
 
-told : (b : Bool) → T b → b ≡ true
-told true h = refl
-told false h = absurd h
-
 none_behind : {X : Type 0} (e : ℕ × X) (es : List (ℕ × X)) → T (below_all nat_cmp e.0 es)
     → find nat_cmp e.0 es ≡ None
 none_behind e es below =
-    find-above nat_cmp_total e.0 es (sym (above-is nat_cmp_total e.0 es) ∙ told _ below)
+    find-above nat_cmp_total e.0 es (sym (above-is nat_cmp_total e.0 es) ∙ is_true _ below)
 
 -- a line on a link, without its CR LF
 pub bare : (parts : Written) → body (text parts) ≡ line_text parts

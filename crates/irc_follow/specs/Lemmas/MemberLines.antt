@@ -3,7 +3,7 @@
 use Rattle.std.proofs.Common.{◌≡◌, ℕ, Bool, true, false, not, ◌&&◌, ◌||◌, List, [], ◌∷◌, ◌++◌, map}
 use Rattle.std.proofs.Common.{nat_eq, refl, sym, ◌∙◌, ap, subst, eqb-true, append-nil}
 use Rattle.std.proofs.Common.{if◌then◌else◌}
-use Rattle.std.proofs.lemmas.Bool.{and_from}
+use Rattle.std.proofs.lemmas.Bool.{and_from, or_from}
 use Rattle.std.proofs.lemmas.List.Folds.{list_any-append}
 use Rattle.std.proofs.lemmas.List.Splits.{slice_split-cons_no, slice_split-cons_yes}
 use Rattle.std.specs.Char.{is_ascii_alphabetic}
@@ -157,15 +157,12 @@ members_back member members all = ap (map member_of) (split_words member members
 abbrev HaveNoNul : List (List ℕ × Flags) → Type 0
 HaveNoNul members = AllByRecursion (λ (member : List ℕ × Flags). has_nul member.0 ≡ false) members
 
-neither : (a b : Bool) → a ≡ false → b ≡ false → (a || b) ≡ false
-neither a b p q = cc
-
 more_no_nul : (members : List (List ℕ × Flags)) → HaveNoNul members
     → has_nul (more_text members) ≡ false
 more_no_nul [] all = refl
 more_no_nul (member ∷ members) all =
     list_any-append is_nul (0x2C ∷ member_text member) (more_text members)
-    ∙ neither (has_nul (member_text member)) (has_nul (more_text members))
+    ∙ or_from (has_nul (member_text member)) (has_nul (more_text members))
     (word_no_nul member.1.op member.1.voice member.0 all.0) (more_no_nul members all.1)
 
 pub members_no_nul : (members : List (List ℕ × Flags)) → HaveNoNul members
@@ -173,7 +170,7 @@ pub members_no_nul : (members : List (List ℕ × Flags)) → HaveNoNul members
 members_no_nul [] all = refl
 members_no_nul (member ∷ members) all =
     list_any-append is_nul (member_text member) (more_text members)
-    ∙ neither (has_nul (member_text member)) (has_nul (more_text members))
+    ∙ or_from (has_nul (member_text member)) (has_nul (more_text members))
     (word_no_nul member.1.op member.1.voice member.0 all.0) (more_no_nul members all.1)
 
 pub all_nicks : (members : List (List ℕ × Flags)) → AreNicks members

@@ -4,6 +4,8 @@ use Rattle.std.proofs.Common.{◌||◌, List, [], ◌∷◌, map, filter, refl, 
 use Rattle.std.proofs.lemmas.Bool.{and_parts, and_from, eqb-true, eq-eqb}
 use Rattle.std.specs.Cmp.Lexicographic.{bytes_decides}
 use Rattle.std.specs.List.{fold, insert, list_any, prefix_len}
+use Rattle.std.proofs.Math.Bool.{or-false}
+use Rattle.std.specs.Cmp.{both_ways}
 use Rattle.irc_relay.specs.Distances.{EndsAreAmong, IsAmong}
 use Rattle.irc_relay.specs.Links.{Name, same, Link, joined, links_without, toward, AreJoined}
 use Rattle.irc_relay.specs.Links.{AreLinked, HasSides, IsForest, IsLeft}
@@ -14,7 +16,6 @@ use Rattle.irc_routes.specs.declared.server_row.ServerRow.{ServerRow}
 use Rattle.irc_routes.specs.Known.{Known, is_behind, is_told_before, others, put_among}
 use Rattle.irc_routes.specs.Known.{servers_told}
 use Rattle.irc_routes.specs.Lemmas.TableRows.{row_passes, some_stands}
-use Rattle.irc_routes.specs.Lemmas.DistinctLinks.{both_so}
 use Rattle.irc_follow.specs.Tree.{Shape, index_in, shape, shape_in}
 use Rattle.irc_follow.specs.SideState.{ItemSetting, info_in, number}
 use Rattle.irc_follow.specs.AtRest.{AreRight, ToldAreThisSide}
@@ -61,10 +62,6 @@ module _ (p : ServerRow → Bool) where
       by true rest = ap (λ b. p r || b) rest
       by false rest = rest
 
-pub or_none : (b : Bool) → (b || false) ≡ b
-or_none true = refl
-or_none false = refl
-
 pub any_named : (test : Name → Bool) (rows : List ServerRow) → list_any test
     (map (λ (r : ServerRow). r.name) rows) ≡ list_any (λ (r : ServerRow). test r.name) rows
 any_named test [] = refl
@@ -94,7 +91,7 @@ module _ (s : ItemSetting) (links : List Link) (routes : Name → Known) (t u x 
       any_named (same x) (servers_told (routes t) (number s u))
       ∙ any_told (λ r. same x r.name) []
       (filter (λ r. not (is_behind (number s u) r)) (others (routes t)))
-      ∙ or_none (list_any (λ r. same x r.name)
+      ∙ or-false (list_any (λ r. same x r.name)
       (filter (λ r. not (is_behind (number s u) r)) (others (routes t))))
       ∙ any_filtered (λ r. same x r.name) (λ r. not (is_behind (number s u) r)) (others (routes t))
 
@@ -158,6 +155,6 @@ module _ (s : ItemSetting) (links : List Link) (routes : Name → Known) (t u x 
 pub told_are_this_side : ToldAreThisSide
 told_are_this_side s links routes t u x forest ends right linked =
     as_rows s links routes t u x forest ends right linked
-    ∙ both_so _ _ (forth s links routes t u x forest ends right linked)
+    ∙ both_ways _ _ (forth s links routes t u x forest ends right linked)
     (back_from s links routes t u x forest ends right linked (joined (links_without links t u) x t)
     (same x t) refl refl)

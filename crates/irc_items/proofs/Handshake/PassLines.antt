@@ -1,5 +1,5 @@
 -- PASS of a handshake is read as it is written, and its password is kept.
-use Rattle.std.proofs.lemmas.Bool.{and_from}
+use Rattle.std.proofs.lemmas.Bool.{and_from, not-true}
 use Rattle.irc_line.specs.Carried.{IsCarried, is_carried_byte}
 use Rattle.irc_line.specs.Lines.{IsLine}
 use Rattle.std.proofs.Common.{◌≡◌, ◌≢◌, ℕ, Bool, true, false, cond, not, ◌&&◌, ◌||◌, Option, Some}
@@ -47,12 +47,7 @@ no_nul (byte ∷ bytes) all =
 
 no_colon : (bytes : List ℕ) → starts_without_colon bytes ≡ true → begins is_colon bytes ≡ false
 no_colon [] starts = refl
-no_colon (byte ∷ bytes) starts = by (is_colon byte) starts
-  where
-    by : (b : Bool) → not b ≡ true → b ≡ false
-    by true fails = cc fails
-    by false so = refl
-
+no_colon (byte ∷ bytes) starts = not-true (is_colon byte) starts
 some_bytes : (bytes : List ℕ) → starts_without_colon bytes ≡ true → bytes ≢ []
 some_bytes [] starts = cc starts
 some_bytes (byte ∷ bytes) starts = λ e. cc e

@@ -7,6 +7,7 @@ use Rattle.std.specs.Cmp.Lexicographic.{same_text}
 use Rattle.std.specs.FinMap.{get}
 use Rattle.std.specs.List.{cons_option, find, list_any, AllByRecursion}
 use Rattle.std.specs.Option.{option_map, option_map_or}
+use Rattle.std.proofs.lemmas.Option.{same_Some}
 use Rattle.irc_batch.specs.Batches.{end_of_link}
 use Rattle.irc_batch.specs.declared.close_reason.CloseReason.TheVariants as reason
 use Rattle.irc_link_words.specs.Passwords.{is_password}
@@ -99,11 +100,8 @@ is_word_for view name word all is = by (find (is_named name) view.peers) refl
     by (Some peer) e =
         let f : Some peer.password ≡ Some word =
         sym (ap (option_map (λ (peer : KnownPeer). peer.password)) e) ∙ is in
-        sym (ap is_password (one f)) ∙ found_so HasPassword (is_named name) view.peers peer all e
-      where
-        one : {A : Type 0} {x y : A} → Some x ≡ Some y → x ≡ y
-        one same_one = cc same_one
-
+        sym (ap is_password (same_Some _ _ f))
+            ∙ found_so HasPassword (is_named name) view.peers peer all e
 -- the word that both have
 record IsShared (one other : Option (List ℕ)) : Type 0 where
   pub word : List ℕ

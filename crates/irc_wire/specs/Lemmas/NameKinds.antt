@@ -7,6 +7,7 @@ use Rattle.std.specs.Cmp.{first_so, second_so}
 use Rattle.std.specs.Char.{is_ascii_alphabetic}
 use Rattle.std.specs.List.{list_any, list_all}
 use Rattle.std.proofs.lemmas.Slice.Eq.{bytes_eq-Decides}
+use Rattle.std.proofs.lemmas.Bool.{or_parts}
 use Rattle.irc_names.specs.Limits.{max_server}
 use Rattle.irc_names.specs.Names.{IsNick, IsChannel, fits, is_special, is_nick, is_nick_byte}
 use Rattle.irc_names.specs.Names.{is_channel, is_channel_byte, is_server, is_server_byte}
@@ -86,12 +87,7 @@ none_behind : (p : ℕ → Bool) (n : ℕ) (bytes : List ℕ) → list_any p byt
 none_behind p zero bytes none = none
 none_behind p (suc n) [] none = refl
 none_behind p (suc n) (byte ∷ bytes) none =
-    none_behind p n bytes (later (p byte) (list_any p bytes) none)
-  where
-    later : (a b : Bool) → (a || b) ≡ false → b ≡ false
-    later true b none = cc none
-    later false b none = none
-
+    none_behind p n bytes (or_parts (p byte) (list_any p bytes) none).1
 channel-unmarked : (word : List ℕ) → IsChannel word → is_marked word ≡ false
 channel-unmarked word is = by (is_marked word) refl
   where

@@ -1,5 +1,6 @@
 use Rattle.std.proofs.Common.{◌∙◌, sym, refl}
-use Rattle.irc_effects.specs.Lemmas.Rows.{not_none, not_true}
+use Rattle.std.proofs.Math.Bool.{false≢true}
+use Rattle.irc_effects.specs.Lemmas.Rows.{not_none}
 use Rattle.irc_room.proofs.Refusals.{named_in, unchanged, served, idle_kept}
 use Rattle.irc_room.proofs.room.Room.change.Goals as goal
 
@@ -53,9 +54,11 @@ returns-in-Err-clause-changed c =
 pub returns-in-Ok-clause-idle : goal.returns-in-Ok-clause-idle
 returns-in-Ok-clause-idle c = λ idle none.
     let named = named_in _ c.args.self.now _ _ c.self.view_is c.named-named.ensures in
-    not_true (sym c.if-is_idle.false ∙ c.is_idle.ensures c.args.self.now.room named ∙ idle)
+    absurd
+        (false≢true (sym c.if-is_idle.false ∙ c.is_idle.ensures c.args.self.now.room named ∙ idle))
 
 pub returns-in-Err-clause-idle : goal.returns-in-Err-clause-idle
 returns-in-Err-clause-idle c = λ idle none.
     let named = named_in _ c.args.self.now _ _ c.self.view_is c.named-named.ensures in
-    not_true (sym c.if-is_idle.false ∙ c.is_idle.ensures c.args.self.now.room named ∙ idle)
+    absurd
+        (false≢true (sym c.if-is_idle.false ∙ c.is_idle.ensures c.args.self.now.room named ∙ idle))
