@@ -8,7 +8,7 @@ use Rattle.std.specs.declared.cmp.Ordering.TheVariants.{Less, Equal, Greater}
 use Rattle.std.specs.Cmp.Lexicographic.{nat_list_cmp_total}
 use Rattle.std.specs.Option.{option_and_then}
 use Rattle.std.specs.Ordering.{is_lt, ordering_reverse}
-use Rattle.irc_names.specs.Lemmas.PlainFacts.{nat_eq-turned}
+use Rattle.irc_names.specs.Lemmas.PlainFacts.{nat_eq-turned, implied}
 use Rattle.irc_names.specs.Fold.{same}
 use Rattle.irc_names.specs.Greater.{bytes_cmp}
 use Rattle.irc_names.specs.GreaterLaws.{bytes_cmp-IsAntisymmetric}
@@ -359,10 +359,6 @@ module _ (one other : ModeChange) (place : place_of one.letter ≡ place_of othe
       by false first false second =
           letters_alike one.letter other.letter place (first ∙ sym second)
 
-both_set : (p : Bool) (b : Bool) → p ≡ true → (not p || b) ≡ true → b ≡ true
-both_set true b is above = above
-both_set false b is above = absurd (true≢false (sym is))
-
 set_less : (p q b : Bool) → p ≡ true → q ≡ true → (p && (not q || b)) ≡ false → b ≡ false
 set_less true true b first second less = less
 set_less true false b first second less = absurd (true≢false (sym second))
@@ -384,7 +380,7 @@ module _ (one other : ModeChange) (is : is_one_place one other ≡ true) where
   place = places one other parts.0
 
   named : is_by_word one.letter ≡ true → are_same_words one.word other.word ≡ true
-  named by = both_set (is_by_word one.letter) (are_same_words one.word other.word) by parts.1
+  named by = implied (is_by_word one.letter) (are_same_words one.word other.word) parts.1 by
 
   change_never : is_greater_change one other ≡ true → is_greater_change other one ≡ true → ⊥
   change_never here there =
@@ -393,8 +389,8 @@ module _ (one other : ModeChange) (is : is_one_place one other ≡ true) where
       let second = and_parts other.plus
       (not one.plus || is_greater_set other.letter other one) there in
       set_never one other place
-      (both_set other.plus (is_greater_set one.letter one other) second.0 first.1)
-      (both_set one.plus (is_greater_set other.letter other one) first.0 second.1)
+      (implied other.plus (is_greater_set one.letter one other) first.1 second.0)
+      (implied one.plus (is_greater_set other.letter other one) second.1 first.0)
 
   module _ (here : is_greater_change one other ≡ false)
       (there : is_greater_change other one ≡ false) where

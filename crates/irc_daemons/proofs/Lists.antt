@@ -1,15 +1,8 @@
 -- Lists at a place, and lists that are empty.
-use Rattle.std.proofs.Common.{◌≡◌, ℕ, zero, suc, Bool, true, false, nat_eq, Some, List, [], ◌∷◌}
-use Rattle.std.proofs.Common.{◌++◌, length, take, drop, refl, sym, ◌∙◌, ap}
-use Rattle.std.proofs.lemmas.Bool.{eq-eqb, eqb-true}
+use Rattle.std.proofs.Common.{◌≡◌, ℕ, zero, suc, false, nat_eq, Some, List, [], ◌∷◌}
+use Rattle.std.proofs.Common.{◌++◌, refl}
 use Rattle.std.specs.List.{slice_get, slice_set, AllByRecursion}
-
-pub one_before : (x y : ℕ) → nat_eq (suc x) (suc y) ≡ false → nat_eq x y ≡ false
-one_before x y two = by (nat_eq x y) refl
-  where
-    by : (b : Bool) → nat_eq x y ≡ b → b ≡ false
-    by false is = refl
-    by true is = cc (sym (eq-eqb (suc x) (suc y) (ap suc (eqb-true x y is))) ∙ two)
+use Rattle.irc_wires.specs.Lemmas.PutWires.{one_before}
 
 pub set_here : {A : Type 0} (xs : List A) (n : ℕ) (old new : A) → slice_get xs n ≡ Some old
     → slice_get (slice_set xs n new) n ≡ Some new
@@ -42,12 +35,3 @@ pub all_rest : {A : Type 0} (P : A → Type 0) (xs ys : List A) → AllByRecursi
     → AllByRecursion P ys
 all_rest P [] ys all = all
 all_rest P (x ∷ xs) ys all = all_rest P xs ys all.1
-
--- as many as the front has
-pub take_front : (xs ys : List ℕ) → take (length xs) (xs ++ ys) ≡ xs
-take_front [] ys = refl
-take_front (x ∷ xs) ys = ap (λ zs. x ∷ zs) (take_front xs ys)
-
-pub drop_front : (xs ys : List ℕ) → drop (length xs) (xs ++ ys) ≡ ys
-drop_front [] ys = refl
-drop_front (x ∷ xs) ys = drop_front xs ys

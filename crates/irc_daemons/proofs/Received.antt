@@ -7,6 +7,7 @@ use Rattle.std.proofs.lemmas.Grind.{flat_map-append}
 use Rattle.std.specs.List.{flat_map, slice_get, slice_set}
 use Rattle.std.specs.Option.{option_map_or}
 use Rattle.std.proofs.Math.Nat.{suc_inj}
+use Rattle.irc_wires.specs.Lemmas.PutWires.{one_before}
 use Rattle.irc_names.specs.Lemmas.PlainFacts.{nat_eq-turned}
 use Rattle.irc_batch.specs.Batches.{Sent, end_of, end_of_link, line_on, line_to}
 use Rattle.irc_line.specs.Reading.{read_of}
@@ -18,7 +19,7 @@ use Rattle.irc_network.specs.Network.{line_queued, reply, sent_out, node_asked, 
 use Rattle.irc_network.specs.Network.{node_changed_at, with_reply, with_node}
 use Rattle.irc_daemons.specs.Alike.{bytes_to, client_bytes}
 use Rattle.irc_daemons.specs.Receiving.{bytes_received, has_come}
-use Rattle.irc_daemons.proofs.Lists.{one_before, set_elsewhere, set_here}
+use Rattle.irc_daemons.proofs.Lists.{set_elsewhere, set_here}
 use Rattle.irc_daemons.proofs.Sent.{Lines, server_at}
 
 abbrev joined : Lines → List ℕ

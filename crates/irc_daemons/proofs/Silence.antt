@@ -7,7 +7,7 @@ use Rattle.std.specs.FinMap.{get}
 use Rattle.std.specs.List.{list_all, list_any}
 use Rattle.std.specs.Option.{option_and_then}
 use Rattle.std.proofs.lemmas.Option.{same_Some}
-use Rattle.irc_names.specs.Lemmas.PlainFacts.{nat_eq-turned, or_first}
+use Rattle.irc_names.specs.Lemmas.PlainFacts.{nat_eq-turned, or_first, nat_eq-unlike}
 use Rattle.irc_batch.specs.Batches.{Sent, end_of, end_of_link, line_on, line_to}
 use Rattle.irc_stage.specs.Ways.{AreEnds, IsMetEnd}
 use Rattle.irc_routes.specs.declared.server_row.ServerRow.{ServerRow}
@@ -107,14 +107,6 @@ module _ (own_law : ServedGoesToItsOwn) (view : View) (read_event : ReadEvent)
       (and_parts (is_its_own view sent || is_on_new read_event sent)
       (list_all (λ s. is_its_own view s || is_on_new read_event s) outs) own).1
 
-  -- what is not there has no other number
-  not_there : (one q : ℕ) (got : ℕ → Bool) → got q ≡ false → got one ≡ true → nat_eq one q ≡ false
-  not_there one q got none some = by (nat_eq one q) refl
-    where
-      by : (b : Bool) → nat_eq one q ≡ b → b ≡ false
-      by true same = cc (sym none ∙ ap got (sym (eqb-true one q same)) ∙ some)
-      by false two = refl
-
   abbrev has_client : ℕ → Bool
   has_client q = is_some (get view.clients q)
 
@@ -153,7 +145,7 @@ module _ (own_law : ServedGoesToItsOwn) (view : View) (read_event : ReadEvent)
   none_for client [] none own = refl
   none_for client (line_to conn text ∷ outs) none own =
       ap (λ b. (if b then text else []) ++ client_bytes client outs)
-      (not_there conn client has_client none (client_there conn text outs own))
+      (nat_eq-unlike has_client client conn none (client_there conn text outs own))
       ∙ none_for client outs none (rest_own (line_to conn text) outs own)
   none_for client (end_of conn ∷ outs) none own =
       none_for client outs none (rest_own (end_of conn) outs own)
@@ -167,19 +159,19 @@ module _ (own_law : ServedGoesToItsOwn) (view : View) (read_event : ReadEvent)
   none_answered q [] none no_end own = refl
   none_answered q (line_to conn text ∷ outs) none no_end own =
       ap (λ b. (if b then text else []) ++ answers q outs)
-      (not_there conn q has_client none (client_there conn text outs own))
+      (nat_eq-unlike has_client q conn none (client_there conn text outs own))
       ∙ none_answered q outs none no_end (rest_own (line_to conn text) outs own)
   none_answered q (end_of conn ∷ outs) none no_end own =
       ap (λ b. if b then [] else answers q outs)
-      (not_there conn q has_client none (client_ends conn outs own))
+      (nat_eq-unlike has_client q conn none (client_ends conn outs own))
       ∙ none_answered q outs none no_end (rest_own (end_of conn) outs own)
   none_answered q (line_on link text ∷ outs) none no_end own =
       ap (λ b. (if b then text else []) ++ answers q outs)
-      (not_there link q has_link no_end (link_there link text outs own))
+      (nat_eq-unlike has_link q link no_end (link_there link text outs own))
       ∙ none_answered q outs none no_end (rest_own (line_on link text) outs own)
   none_answered q (end_of_link link reason ∷ outs) none no_end own =
       ap (λ b. if b then [] else answers q outs)
-      (not_there link q has_link no_end (link_ends link reason outs own))
+      (nat_eq-unlike has_link q link no_end (link_ends link reason outs own))
       ∙ none_answered q outs none no_end (rest_own (end_of_link link reason) outs own)
 
   -- who has no link's number is closed by its own end alone
@@ -200,7 +192,7 @@ module _ (own_law : ServedGoesToItsOwn) (view : View) (read_event : ReadEvent)
       by false is rest = rest is
   none_closed q (end_of_link link reason ∷ outs) no_end none own =
       ap (λ b. b || is_closed_by q outs)
-      (not_there link q has_link no_end (link_ends link reason outs own))
+      (nat_eq-unlike has_link q link no_end (link_ends link reason outs own))
       ∙ none_closed q outs no_end none (rest_own (end_of_link link reason) outs own)
 
   -- a link gets nothing where nothing goes on any
@@ -209,11 +201,11 @@ module _ (own_law : ServedGoesToItsOwn) (view : View) (read_event : ReadEvent)
   none_linked q [] no_client none own = refl
   none_linked q (line_to conn text ∷ outs) no_client none own =
       ap (λ b. (if b then text else []) ++ answers q outs)
-      (not_there conn q has_client no_client (client_there conn text outs own))
+      (nat_eq-unlike has_client q conn no_client (client_there conn text outs own))
       ∙ none_linked q outs no_client none (rest_own (line_to conn text) outs own)
   none_linked q (end_of conn ∷ outs) no_client none own =
       ap (λ b. if b then [] else answers q outs)
-      (not_there conn q has_client no_client (client_ends conn outs own))
+      (nat_eq-unlike has_client q conn no_client (client_ends conn outs own))
       ∙ none_linked q outs no_client none (rest_own (end_of conn) outs own)
   none_linked q (line_on link text ∷ outs) no_client none own = cc none
   none_linked q (end_of_link link reason ∷ outs) no_client none own =

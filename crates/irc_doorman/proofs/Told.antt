@@ -4,6 +4,7 @@ use Rattle.std.proofs.Common.{List, [], ◌∷◌, ◌++◌, refl, sym, ◌∙�
 use Rattle.std.proofs.lemmas.Bool.{eqb-true}
 use Rattle.std.proofs.lemmas.List.Folds.{list_any-append}
 use Rattle.std.proofs.Math.Bool.{or-false}
+use Rattle.irc_engine.specs.Lemmas.Layers.{ended_as, shut_by}
 use Rattle.arrayvec.specs.ArrayVec.{ArrayVec}
 use Rattle.irc_batch.specs.Batches.{Sent, end_of, line_to}
 use Rattle.irc_line.specs.Messages.{text}
@@ -24,20 +25,6 @@ use Rattle.irc_doorman.specs.declared.guest.Fate.TheVariants.{Passes, LacksWord,
 use Rattle.irc_doorman.specs.declared.guest.Guest.{Guest}
 use Rattle.irc_doorman.specs.Doormen.{conn_of, fate_at, given, is_there, line_fate, told, Guests}
 use Rattle.irc_doorman.specs.Texts.{bad_password, closing}
-
--- ---- booleans
-
-left_or_closed : (a t x : Bool)
-    → ((a || false) && not (t || x)) ≡ ((a || false) && not (x || (t || false)))
-left_or_closed a true true = refl
-left_or_closed a true false = refl
-left_or_closed a false true = refl
-left_or_closed a false false = refl
-
-ended_before : (x t : Bool) → (x || (t || false)) ≡ true → t ≡ false → x ≡ true
-ended_before true t ended none = refl
-ended_before false true ended none = cc none
-ended_before false false ended none = cc ended
 
 -- ---- what closes nobody is said behind
 
@@ -90,7 +77,7 @@ module _ (conn : ℕ) (line : ArrayVec ℕ) (one other : List ℕ) where
       → AreConnectedBy was (read_event_of (Line conn line)) (x ++ last) new
   away was new x there by = record {
     clients = λ q. by.clients q
-        ∙ left_or_closed (has_client was q) (nat_eq conn q) (is_client_ended q x)
+        ∙ shut_by (has_client was q) (nat_eq conn q) (is_client_ended q x)
         ∙ ap (λ t. (has_client was q || false) && not t)
         (sym (list_any-append (ends_client q) x last));
     links = λ q. by.links q
@@ -107,7 +94,7 @@ module _ (conn : ℕ) (line : ArrayVec ℕ) (one other : List ℕ) where
       was_there q true same ended =
           ap (has_client was) (sym (eqb-true conn q same)) ∙ there
       was_there q false differ ended = by.clients_were_there q
-          (ended_before (is_client_ended q x) (nat_eq conn q) ended differ)
+          (ended_as (is_client_ended q x) (nat_eq conn q) ended differ)
 
   turned_away : (server after : Option View) (before between end : List Sent)
       → is_there server conn ≡ true → IsConnectedBy server (Gone conn) before after between

@@ -6,7 +6,7 @@ use Rattle.std.proofs.Common.{arith}
 use Rattle.std.specs.List.{list_all, filter_map, count_by, cons_option, AllByRecursion}
 use Rattle.std.specs.Option.{option_map_or, IfSome}
 use Rattle.std.specs.Cmp.{first_so, second_so}
-use Rattle.std.proofs.lemmas.Option.{same_Some}
+use Rattle.std.proofs.lemmas.Option.{same_Some, none-some}
 use Rattle.std.proofs.Math.Bool.{false≢true}
 use Rattle.irc_line.specs.Lemmas.Lengths.{words_size}
 use Rattle.irc_names.specs.Fold.{key}
@@ -26,7 +26,6 @@ use Rattle.irc_modes.specs.Lemmas.LimitFacts.{limit-few}
 use Rattle.irc_effects.specs.Room.{Room}
 use Rattle.irc_effects.specs.Seen.{stored_nick, names_member, written_word, changes_words}
 use Rattle.irc_effects.specs.Sendable.{IsStoredNick, IsSentWord, IsSentChange}
-use Rattle.irc_effects.specs.Lemmas.Rows.{not_none}
 
 parameter_short : (which : ModeLetter) (word : List ℕ) → is_parameter which word ≡ true
     → length word ≤ 90
@@ -53,7 +52,7 @@ nick_as_stored room nick is = by (row room.users (key nick)) is
   where
     by : (o : Option User) → option_map (λ (user : User). user.nick) o ≡ Some nick
         → option_map_or (λ (user : User). user.nick) o nick ≡ nick
-    by None is = not_none nick is
+    by None is = absurd (none-some nick is)
     by (Some user) is = same_Some user.nick nick is
 
 written_short : (room : Room) (member : Bool) (word : List ℕ) → length word ≤ 90

@@ -1,12 +1,12 @@
 -- Names that keep their rules are words of lines.
 use Rattle.std.proofs.Common.{◌≡◌, ◌≢◌, ℕ, Bool, true, false, not, ◌||◌, ◌&&◌, List, [], ◌∷◌}
-use Rattle.std.proofs.Common.{nat_eq, refl, sym, inl, inr, ◌∙◌, ap, eqb}
+use Rattle.std.proofs.Common.{nat_eq, refl, ap, eqb}
 use Rattle.std.specs.List.{list_all}
 use Rattle.std.specs.Cmp.{first_so, second_so}
 use Rattle.std.specs.Char.{is_ascii_alphabetic}
-use Rattle.std.proofs.lemmas.Bool.Decides.{eqb_tells}
 use Rattle.std.proofs.lemmas.Bool.{or_from, and_from}
 use Rattle.std.proofs.Math.Bool.{false≢true}
+use Rattle.irc_names.specs.Lemmas.PlainFacts.{nat_eq-unlike}
 use Rattle.irc_line.specs.Bytes.{is_nul, is_line_end, is_space}
 use Rattle.irc_line.specs.Carried.{is_carried_byte, is_carried, IsCarried}
 use Rattle.irc_line.specs.Lemmas.CarriedBytes.{carried_byte, carried_no_nul}
@@ -16,14 +16,6 @@ use Rattle.irc_names.specs.Names.{is_host_byte, is_server, is_server_byte, is_ke
 use Rattle.irc_names.specs.Names.{is_ban_mask, is_ban_mask_byte, starts_without_colon, IsKey}
 use Rattle.irc_names.specs.UserTexts.{IsUserName, is_user_byte}
 use Rattle.irc_effects.specs.Laws.{IsLineWord, NamesAreLineWords}
-
--- a byte that a rule takes is none that it refuses
-unequal : (allows : ℕ → Bool) (refused byte : ℕ) → allows refused ≡ false → allows byte ≡ true
-    → eqb byte refused ≡ false
-unequal allows refused byte out is = elim (eqb_tells byte refused) [
-  | inl same ↦ absurd (false≢true (sym out ∙ ap allows (sym same.1) ∙ is))
-  | inr other ↦ other.0
-]
 
 -- a rule that refuses NUL, CR, LF and the space
 record Refuses (allows : ℕ → Bool) : Type 0 where
@@ -35,9 +27,9 @@ record Refuses (allows : ℕ → Bool) : Type 0 where
 byte_carried : (allows : ℕ → Bool) (byte : ℕ) → Refuses allows → allows byte ≡ true
     → is_carried_byte byte ≡ true
 byte_carried allows byte refuses is =
-    carried_byte (is_nul byte) (is_line_end byte) (unequal allows 0 byte refuses.nul is)
-    (or_from (eqb byte 13) (eqb byte 10) (unequal allows 13 byte refuses.return is)
-    (unequal allows 10 byte refuses.feed is))
+    carried_byte (is_nul byte) (is_line_end byte) (nat_eq-unlike allows 0 byte refuses.nul is)
+    (or_from (eqb byte 13) (eqb byte 10) (nat_eq-unlike allows 13 byte refuses.return is)
+    (nat_eq-unlike allows 10 byte refuses.feed is))
 
 all_carried : (allows : ℕ → Bool) (bytes : List ℕ) → Refuses allows → list_all allows bytes ≡ true
     → is_carried bytes ≡ true
@@ -49,7 +41,7 @@ all_carried allows (byte ∷ bytes) refuses all =
 
 no_space : (allows : ℕ → Bool) (byte : ℕ) → allows 32 ≡ false → allows byte ≡ true
     → not (is_space byte) ≡ true
-no_space allows byte out is = ap not (unequal allows 32 byte out is)
+no_space allows byte out is = ap not (nat_eq-unlike allows 32 byte out is)
 
 no_spaces : (allows : ℕ → Bool) (bytes : List ℕ) → allows 32 ≡ false → list_all allows bytes ≡ true
     → list_all (λ b. not (is_space b)) bytes ≡ true
@@ -75,7 +67,7 @@ word_by first allows first_refuses refuses no_colon byte bytes is all =
         no_space = and_from (not (is_space byte)) (list_all (λ b. not (is_space b)) bytes)
             (no_space first byte first_refuses.space is)
             (no_spaces allows bytes refuses.space all);
-        no_colon = unequal first 58 byte no_colon is;
+        no_colon = nat_eq-unlike first 58 byte no_colon is;
         no_nul = carried_no_nul (byte ∷ bytes) carried;
       };
       carried = carried;
@@ -169,7 +161,7 @@ ban_word (byte ∷ bytes) is carried =
         is_some = some_byte byte bytes;
         no_space = no_spaces is_ban_mask_byte (byte ∷ bytes) refl
             (second_so (not (nat_eq byte 58)) (list_all is_ban_mask_byte (byte ∷ bytes)) parts);
-        no_colon = unequal (λ b. not (nat_eq b 58)) 58 byte refl begins;
+        no_colon = nat_eq-unlike (λ b. not (nat_eq b 58)) 58 byte refl begins;
         no_nul = carried_no_nul (byte ∷ bytes) carried;
       };
       carried = carried;

@@ -7,6 +7,7 @@ use Rattle.std.proofs.lemmas.List.Elements.{filter-append}
 use Rattle.std.specs.BTreeMap.{BTreeMap}
 use Rattle.std.proofs.Math.Bool.{and-false}
 use Rattle.std.proofs.lemmas.Bool.{eq-eqb}
+use Rattle.irc_names.specs.Lemmas.PlainFacts.{and_not}
 use Rattle.irc_outbox.specs.declared.outbox.Overflow.{Overflow}
 use Rattle.irc_outbox.specs.Calls.{Call, closes, is_some_bytes}
 use Rattle.irc_batch.specs.Batches.{Sent, end_of, end_of_link, line_on, line_to}
@@ -30,7 +31,7 @@ use Rattle.irc_engine.specs.Loops.Connections.{ended, stayed, Carries}
 use Rattle.irc_engine.proofs.TableLaws.{IsQueuedAt}
 use Rattle.irc_engine.proofs.KindLaws.{kind_kept, kind_forgotten, kind_gone}
 use Rattle.irc_engine.specs.Lemmas.CarryingLaws.{IsElsewhere, nothing_owed, passage_as, passage_on}
-use Rattle.irc_engine.specs.Lemmas.CarryingLaws.{untouched, still, kept_none, kept_some}
+use Rattle.irc_engine.specs.Lemmas.CarryingLaws.{untouched, kept_none, kept_some}
 use Rattle.irc_engine.proofs.EachConnection.{adds_none, adds_both, at_once, by_number, set_here}
 use Rattle.irc_engine.proofs.EachConnection.{set_other, nothing_else, close_elsewhere}
 use Rattle.irc_engine.proofs.EachConnection.{line_elsewhere, closed_elsewhere, ends_fewer}
@@ -113,7 +114,7 @@ module _ {W : Type 0} (is_after : W → List Call → Type 0) where
                         ∙ sym (ap (λ (s : Connection). s.outbox.bytes) queued.is);
                     same_room = ap (λ (s : Connection). s.outbox.room) queued.is;
                     still_open = ap (λ (s : Connection). is_some s.framer) queued.is
-                        ∙ still (is_some connection.framer) false refl;
+                        ∙ and_not (is_some connection.framer) false refl;
                     never = refl;
                     never_cut = refl;
                   };
@@ -175,7 +176,7 @@ module _ {W : Type 0} (is_after : W → List Call → Type 0) where
                         ∙ sym (ap (λ (s : Connection). s.outbox.bytes) now_is);
                     same_room = ap (λ (s : Connection). s.outbox.room) now_is;
                     still_open = ap (λ (s : Connection). is_some s.framer) now_is
-                        ∙ still (is_some connection.framer) false refl;
+                        ∙ and_not (is_some connection.framer) false refl;
                     never = refl;
                     never_cut = refl;
                   };

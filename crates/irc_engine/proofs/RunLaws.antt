@@ -11,6 +11,7 @@ use Rattle.std.proofs.lemmas.List.Folds.{drop_split}
 use Rattle.std.proofs.lemmas.List.Elements.{filter-append}
 use Rattle.std.proofs.Math.Bool.{or-false, and-false, and-true}
 use Rattle.std.proofs.lemmas.Bool.{or_parts, eq-eqb, eqb-true}
+use Rattle.irc_names.specs.Lemmas.PlainFacts.{and_not}
 use Rattle.irc_outbox.specs.declared.wire.Got.{Got}
 use Rattle.irc_outbox.specs.declared.wire.Got.TheVariants.{Bytes, Later, End}
 use Rattle.irc_outbox.specs.declared.wire.IoFault.{IoFault}
@@ -52,7 +53,6 @@ use Rattle.irc_engine.proofs.KindLaws.{kind_kept, kind_of_lost, some_lost}
 use Rattle.arrayvec.specs.ArrayVec.{ArrayVec}
 use Rattle.irc_engine.specs.Lemmas.CarryingLaws.{is_closed_by-append, IsElsewhere, elsewhere_both}
 use Rattle.irc_engine.specs.Lemmas.CarryingLaws.{fate_on, same_fate, untouched_fate, nothing_owed}
-use Rattle.irc_engine.specs.Lemmas.CarryingLaws.{still}
 
 pub on_ok : {E : Type 0} (result : Result (Unit {0}) E) (P Q : Type 0) → (P → Q) → OnOk result P
     → OnOk result Q
@@ -907,7 +907,7 @@ module _ {W M : Type 0} {server_of : M → Option View} {handles : Handles M}
                   ∙ sym (ap (λ (s : Connection). s.outbox.bytes) so.is);
               same_room = ap (λ (s : Connection). s.outbox.room) so.is;
               still_open = ap (λ (s : Connection). is_some s.framer) so.is ∙ sym (ap is_some so.was)
-                  ∙ still (is_some connection.framer) false refl;
+                  ∙ and_not (is_some connection.framer) false refl;
               never = refl;
               never_cut = refl;
             }))) q)

@@ -10,7 +10,7 @@ use Rattle.std.proofs.lemmas.List.Folds.{list_all-append, list_any-append}
 use Rattle.std.proofs.lemmas.List.Sums.{fold-append}
 use Rattle.std.specs.List.{list_all, list_any, cons_option, AllByRecursion}
 use Rattle.std.specs.FinMap.{empty, entries, keys, retain_keys, find, get-empty, get-entries}
-use Rattle.irc_names.specs.Lemmas.PlainFacts.{none_if_not_some}
+use Rattle.irc_names.specs.Lemmas.PlainFacts.{none_if_not_some, same_either_way}
 use Rattle.irc_names.specs.Fold.{key}
 use Rattle.irc_names.specs.Greater.{bytes_cmp, greater}
 use Rattle.irc_names.specs.GreaterLaws.{greater_associates, greater_with_itself}
@@ -46,7 +46,7 @@ use Rattle.irc_merge.specs.Lemmas.ChannelRows.{with_member, comes_to, entry_join
 use Rattle.irc_merge.specs.Lemmas.ChannelRows.{row_new, row_spelled, line_in, row_far, all_raised}
 use Rattle.irc_merge.specs.Lemmas.ChannelRows.{topic_raised, row_set, topic_row, members_row}
 use Rattle.irc_merge.specs.Lemmas.ChannelRows.{modes_row, channel_row}
-use Rattle.irc_merge.specs.Lemmas.BooleanTests.{and_not, either_way}
+use Rattle.irc_merge.specs.Lemmas.BooleanTests.{and_not}
 
 -- a table without a key has no row
 pub no_rows : {X : Type 0} (table : Table X) → is_nil (keys table) ≡ true → (q : List ℕ)
@@ -157,7 +157,7 @@ module _ (passes : List ℕ → Bool) where
   row-in : (es : List (List ℕ × Flags)) (table : Table Flags) (q : List ℕ) → row
       (fold row_in table es) q ≡ either (row table q) (cond (passes q) (find fold_cmp q es) None)
   row-in [] table q =
-      sym (ap (either (row table q)) (either_way (passes q) None) ∙ either_none (row table q))
+      sym (ap (either (row table q)) (same_either_way (passes q) None) ∙ either_none (row table q))
   row-in (e ∷ es) table q =
       row-in es (row_in table e) q
       ∙ by_test (passes e.0 && not (is_some (row table e.0))) refl (same_fold q e.0) refl
@@ -380,7 +380,7 @@ module _ (passes : List ℕ → Bool) where
       by_test true some =
           ap (λ t. cond (any_new (fold row_in channel.members a) b) t
           (greater bytes_cmp channel.name name)) (greater_again channel.name name)
-          ∙ either_way (any_new (fold row_in channel.members a) b)
+          ∙ same_either_way (any_new (fold row_in channel.members a) b)
           (greater bytes_cmp channel.name name)
       by_test false none =
           ap (λ t. cond (any_new t b) (greater bytes_cmp channel.name name) channel.name)
@@ -433,7 +433,7 @@ module _ (passes : List ℕ → Bool) where
           (ap (greater bytes_cmp channel.name) (sym theirs.0) ∙ greater_with_itself channel.name)
           ∙ ap (λ t. Some
           (record channel { name = t; members = fold row_in channel.members (folded line) }))
-          (either_way (any_new channel.members (folded line)) channel.name)
+          (same_either_way (any_new channel.members (folded line)) channel.name)
           ∙ sym (some_joins name (folded line) channel theirs.1)
 
       made : (members : Table Flags)

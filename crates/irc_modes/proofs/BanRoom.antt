@@ -8,6 +8,7 @@ use Rattle.std.proofs.lemmas.List.{drop_more}
 use Rattle.std.specs.List.{list_any, list_all}
 use Rattle.std.specs.Cmp.{first_so, second_so}
 use Rattle.std.proofs.lemmas.Bool.{or_left, or_right}
+use Rattle.irc_names.specs.Lemmas.PlainFacts.{or_swapped}
 use Rattle.irc_names.specs.Fold.{same}
 use Rattle.irc_names.specs.FoldLaws.{same-equivalence}
 use Rattle.irc_modes.specs.declared.modes.ModeChange.{ModeChange}
@@ -74,12 +75,6 @@ alike_le false false a b is h = both_le 1 a b h
 
 -- ---- what is there with a mask and without it
 
-swap : (a b c : Bool) → (a || (b || c)) ≡ (b || (a || c))
-swap true true c = refl
-swap true false c = refl
-swap false true c = refl
-swap false false c = refl
-
 any_congr : (x m : List ℕ) → same x m ≡ true → (bans : List (List ℕ))
     → list_any (same x) bans ≡ list_any (same m) bans
 any_congr x m is [] = refl
@@ -97,7 +92,8 @@ any_placed m mask (ban ∷ bans) = by (before ban mask) (any_placed m mask bans)
         → list_any (same m) (cond test (ban ∷ placed mask bans) (mask ∷ ban ∷ bans))
         ≡ (same m mask || (same m ban || list_any (same m) bans))
     by true rest =
-        ap (λ b. same m ban || b) rest ∙ swap (same m ban) (same m mask) (list_any (same m) bans)
+        ap (λ b. same m ban || b) rest
+            ∙ or_swapped (same m ban) (same m mask) (list_any (same m) bans)
     by false rest = refl
 
 length_placed : (mask : List ℕ) (bans : List (List ℕ))

@@ -1,9 +1,9 @@
 -- What comes of a call, from what the network has done.
 use Rattle.std.specs.Option.{option_and_then, option_map, option_map_or}
 use Rattle.std.proofs.Common.{◌≡◌, ◌+◌, ◌++◌, ◌∷◌, ◌∙◌, ◌||◌, ◌==◌, not, inl, inr, is_some, min, ℕ}
-use Rattle.std.proofs.Common.{zero, suc, take, drop, length, ◌≤◌, arith, Bool, true, false, Option}
+use Rattle.std.proofs.Common.{zero, suc, take, drop, length, ◌≤◌, Bool, true, false, Option}
 use Rattle.std.proofs.Common.{Some, None, Result, Ok, Err, IsErrAnd, List, [], refl, sym, subst, ap}
-use Rattle.std.proofs.Common.{if◌then◌else◌}
+use Rattle.std.proofs.Common.{if◌then◌else◌, take_all}
 use Rattle.std.specs.List.{slice_get}
 use Rattle.irc_relay.specs.Links.{Name}
 use Rattle.irc_world.specs.Stepping.{Item}
@@ -286,14 +286,7 @@ pub all_played : {old new : NetView} (steps : List Step) (answers : List StepAns
     → length steps ≤ i → PlaysSteps old (take i steps) answers new
     → ArePlayed old steps (Ok answers) new
 all_played {old = old} {new = new} steps answers i behind plays =
-    calls.plays_them (subst (λ ss. PlaysSteps old ss answers new) (all_taken steps i behind) plays)
-  where
-    all_taken : {X : Type 0} (xs : List X) (n : ℕ) → length xs ≤ n → take n xs ≡ xs
-    all_taken [] zero behind = refl
-    all_taken [] (suc n) behind = refl
-    all_taken (x ∷ xs) zero behind = absurd (omega (arith, behind))
-    all_taken (x ∷ xs) (suc n) behind = ap (λ ys. x ∷ ys) (all_taken xs n (omega (arith, behind)))
-
+    calls.plays_them (subst (λ ss. PlaysSteps old ss answers new) (take_all i steps behind) plays)
 pub play_stops : (old new : NetView) (steps : List Step) (fault : NetFault)
     (r : Result (Vec StepAnswer) NetFault) → IsErrAnd r (λ e. e ≡ fault)
     → StopsAt old steps fault new → ArePlayed old steps (answers_now r) new

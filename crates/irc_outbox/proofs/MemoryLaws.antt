@@ -15,6 +15,7 @@ use Rattle.std.proofs.lemmas.Grind.{flat_map-append}
 use Rattle.std.proofs.lemmas.List.{take-append-drop, take-append-le}
 use Rattle.std.proofs.lemmas.List.Folds.{list_any-append}
 use Rattle.std.proofs.Math.Bool.{or-true, or-false}
+use Rattle.irc_names.specs.Lemmas.PlainFacts.{same_either_way}
 use Rattle.irc_outbox.specs.declared.memory.Far.{Far}
 use Rattle.irc_outbox.specs.declared.wire.IoFault.{IoFault}
 use Rattle.irc_outbox.specs.declared.wire.Ready.{Ready}
@@ -121,10 +122,6 @@ told_on conn change old new calls more here others (at_far far now was set so ke
         subst (λ (n : ℕ). IsTold n (told_by_far now) (calls ++ more)) (eqb-true conn q e) mine
     by q false e = other_told q (far_at old q) calls more (all q) (others q e)
 
-cond_same : {A : Type 0} (t : Bool) (x : A) → cond t x x ≡ x
-cond_same true x = refl
-cond_same false x = refl
-
 -- one call more
 grows : (q : ℕ) (t u : WireTold) (calls : List Call) (call : Call) (given put : List ℕ)
     (shut : Bool) → taken_by q call ≡ given → written_by q call ≡ put → is_close_of q call ≡ shut
@@ -179,7 +176,7 @@ pub gives_none : (conn : ℕ) (old new : BTreeMap ℕ Far) → StillTold old new
 gives_none conn old new stays = λ calls room answer all.
     all_told new calls (reads conn room answer [] ∷ [])
     (λ q t is. quiet q t calls (reads conn room answer [])
-    (cond_same (nat_eq conn q) []) refl refl is) (stays calls all)
+    (same_either_way (nat_eq conn q) []) refl refl is) (stays calls all)
 
 pub gives : (conn : ℕ) (bytes : List ℕ) (old new : BTreeMap ℕ Far)
     → Changes conn (with_taken bytes) old new → Gives conn bytes old new
@@ -197,7 +194,7 @@ pub takes_none : (conn : ℕ) (bytes : List ℕ) (fault : IoFault) (old new : BT
 takes_none conn bytes fault old new stays = λ calls all.
     all_told new calls (writes conn bytes (Err fault) ∷ [])
     (λ q t is. quiet q t calls (writes conn bytes (Err fault)) refl
-    (cond_same (nat_eq conn q) []) refl is) (stays calls all)
+    (same_either_way (nat_eq conn q) []) refl is) (stays calls all)
 
 pub takes : (conn : ℕ) (bytes : List ℕ) (n : ℕ) (old mid new : BTreeMap ℕ Far)
     → StillTold old mid → Changes conn (with_written (take n bytes)) mid new → (calls : List Call)

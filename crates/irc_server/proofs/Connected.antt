@@ -11,7 +11,7 @@ use Rattle.std.specs.List.{cons_option, flat_map, list_all, list_any}
 use Rattle.std.specs.Option.{option_map_or}
 use Rattle.std.specs.Ordering.{nat_cmp}
 use Rattle.std.specs.Cmp.{first_so}
-use Rattle.irc_names.specs.Lemmas.PlainFacts.{and_neither}
+use Rattle.irc_names.specs.Lemmas.PlainFacts.{and_neither, and_not}
 use Rattle.irc_batch.specs.Batches.{Sent, end_of, end_of_link, line_on, line_to}
 use Rattle.irc_batch.specs.declared.close_reason.CloseReason.{CloseReason}
 use Rattle.irc_batch.specs.declared.close_reason.CloseReason.TheVariants as reason
@@ -125,15 +125,10 @@ record Quiet (clients links : ℕ → Bool) (s : Served) : Type 0 where
   linked : (q : ℕ) → has_link s.state q ≡ links q
   no_end : list_all is_no_end s.out ≡ true
 
-and_not_false : (a b : Bool) → b ≡ false → a ≡ (a && not b)
-and_not_false true true is = cc is
-and_not_false true false is = refl
-and_not_false false b is = refl
-
 counted : (clients links : ℕ → Bool) (s : Served) → Quiet clients links s → Counted clients links s
 counted clients links s quiet = record {
   there = λ q. quiet.there q
-      ∙ and_not_false (clients q) (is_client_ended q s.out) (no_client_ends q s.out quiet.no_end);
+      ∙ and_not (clients q) (is_client_ended q s.out) (no_client_ends q s.out quiet.no_end);
   were = λ q is. absurd (cc (sym (no_client_ends q s.out quiet.no_end) ∙ is));
   linked = quiet.linked;
 }

@@ -1,5 +1,5 @@
 -- Some are let go, one after another.
-use Rattle.std.proofs.Common.{◌≡◌, ◌≢◌, ℕ, ◌+◌, ◌-◌, ◌<◌, ◌==◌, Bool, true, false, not, ◌&&◌}
+use Rattle.std.proofs.Common.{◌≡◌, ◌≢◌, ℕ, ◌-◌, ◌<◌, ◌==◌, Bool, true, false, not, ◌&&◌}
 use Rattle.std.proofs.Common.{nat_eq, Option, Some, None, List, length, get_or, refl, sym, ◌∙◌, ap}
 use Rattle.std.proofs.Common.{subst, arith}
 use Rattle.std.proofs.lemmas.Bool.{eqb-true, eqb-false, not_from_true, not-false}
@@ -169,16 +169,3 @@ pub due_at : (now : ℕ) (talkers : NumberedTalkers) (xs : List Held) (place : �
     → is_due now talkers (get_or xs place d) ≡ is_due now talkers held
 due_at now talkers xs place held d within there =
     ap (due_of now talkers) (sym (slice_get-get_or xs place d within) ∙ there)
-
--- ---- place by place
-
-pub one_further : (P : ℕ → Type 0) (place : ℕ) → ((k : ℕ) → k < place → P k) → P place → (k : ℕ)
-    → k < place + 1 → P k
-one_further P place before here k below =
-    elim (k == place) as (λ b. (k == place) ≡ b → P k) [
-      | true ↦ λ (e : (k == place) ≡ true). subst P (sym (eqb-true k place e)) here
-      | false ↦ λ (e : (k == place) ≡ false). before k (lower k place below (eqb-false k place e))
-    ] refl
-  where
-    lower : (k place : ℕ) → k < place + 1 → k ≢ place → k < place
-    lower k place below apart = omega arith

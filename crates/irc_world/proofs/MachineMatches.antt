@@ -1,5 +1,5 @@
 -- Whatever a client does, the clients and the users of its part stay matched.
-use Rattle.std.proofs.Common.{◌≡◌, ℕ, Bool, true, false, cond, not, ◌||◌, Option, Some, None}
+use Rattle.std.proofs.Common.{◌≡◌, ℕ, Bool, true, false, cond, not, Option, Some, None}
 use Rattle.std.proofs.Common.{Ok, Err, List, [], ◌∷◌, refl, sym, ◌∙◌, ap, subst, is_some, map}
 use Rattle.std.proofs.Common.{option_map, if◌then◌else◌}
 use Rattle.std.specs.List.{list_any}
@@ -10,6 +10,7 @@ use Rattle.std.specs.Ordering.{nat_cmp}
 use Rattle.std.specs.FinMap.{get, insert, remove, entries, find, get-insert, get-remove}
 use Rattle.std.specs.FinMap.{get-entries, get-from_entries}
 use Rattle.std.proofs.lemmas.Bool.{or_parts}
+use Rattle.irc_names.specs.Lemmas.PlainFacts.{implied}
 use Rattle.irc_names.specs.Fold.{key, same}
 use Rattle.irc_names.specs.Tables.{row}
 use Rattle.irc_names.specs.TableLaws.{same_fold, one_fold, row-alter, row-moved}
@@ -124,10 +125,6 @@ home_of_cond : (b : Bool) (x y : Option User)
 home_of_cond true x y = refl
 home_of_cond false x y = refl
 
-or_second : (b c : Bool) → (not b || c) ≡ true → b ≡ true → c ≡ true
-or_second true c either is = either
-or_second false c either is = absurd (cc is)
-
 module _ (homes : ℕ → Option Name) where
   abbrev pub IsMatched : RoomMachine → Type 0
   IsMatched machine = AreMatched homes (home_under machine.room) (registered_as machine.clients)
@@ -137,7 +134,7 @@ module _ (homes : ℕ → Option Name) where
     free : (home : Name) → home_under machine.room (key new) ≡ Some home → key new ≡ key nick
     free home is =
         sym ((bytes_decides (key nick) (key new)).0
-        (or_second (has_user machine.room new) (same nick new) possible.nick_free
+        (implied (has_user machine.room new) (same nick new) possible.nick_free
         (there (row machine.room.users (key new)) is)))
       where
         there : (o : Option User) → home_in_row o ≡ Some home → is_some o ≡ true

@@ -4,6 +4,7 @@ use Rattle.std.proofs.Common.{◌∙◌, ap, is_some}
 use Rattle.std.specs.Option.{option_map_or}
 use Rattle.std.specs.FinMap.{retain_keys}
 use Rattle.std.proofs.Math.Bool.{false≢true}
+use Rattle.std.proofs.lemmas.Option.{none-some}
 use Rattle.irc_names.specs.Fold.{same}
 use Rattle.irc_names.specs.Tables.{Table, row, moved}
 use Rattle.irc_names.specs.TableLaws.{same_fold, one_fold, same_table, row-moved, row-moved_none}
@@ -11,7 +12,6 @@ use Rattle.irc_names.specs.TableLaws.{row-retain_keys}
 use Rattle.irc_users.specs.declared.user.User.{User}
 use Rattle.irc_users.specs.UserTable.{is_home, with_nick}
 use Rattle.irc_effects.specs.Invitations.{is_at}
-use Rattle.irc_effects.specs.Lemmas.Rows.{not_none}
 
 -- Whoever is invited is a user, and nobody but the user itself has the new nickname.
 module _ (home old new nick : List ℕ) (users : Table User) (invited : Table (Unit {0}))
@@ -62,7 +62,7 @@ module _ (home old new nick : List ℕ) (users : Table User) (invited : Table (U
       apart_old : (u : Unit {0}) → row invited q ≡ Some u → (b : Bool) → same_fold q old ≡ b
           → b ≡ false
       apart_old u at true one =
-          not_none u (sym none ∙ ap (row invited) (sym (one_fold q old one)) ∙ at)
+          absurd (none-some u (sym none ∙ ap (row invited) (sym (one_fold q old one)) ∙ at))
       apart_old u at false apart = refl
 
       apart_new : (u : Unit {0}) → row invited q ≡ Some u → (b : Bool) → same_fold q new ≡ b

@@ -4,7 +4,7 @@ use Rattle.std.proofs.Common.{List, [], ◌∷◌, refl, sym, ◌∙◌, subst, 
 use Rattle.std.specs.List.{AllByRecursion}
 use Rattle.std.specs.Option.{option_and_then, IfSome}
 use Rattle.std.specs.FinMap.{empty, get-empty, keys}
-use Rattle.std.proofs.lemmas.Option.{same_Some}
+use Rattle.std.proofs.lemmas.Option.{same_Some, none-some}
 use Rattle.irc_names.specs.Fold.{key}
 use Rattle.irc_names.specs.Names.{IsNick, IsChannel}
 use Rattle.irc_names.specs.Tables.{Table, fold_cmp, row, alter, each, moved}
@@ -29,7 +29,6 @@ use Rattle.irc_effects.specs.Sendable.{IsNameFor, IsSentWord, IsSentChange}
 use Rattle.irc_effects.specs.Seen.{names_member}
 use Rattle.irc_effects.specs.After.{after}
 use Rattle.irc_effects.specs.Laws.{NoRoomIsWithinLimits, AfterIsWithinLimits, SentKeepsLimits}
-use Rattle.irc_effects.specs.Lemmas.Rows.{not_none}
 use Rattle.irc_effects.specs.Lemmas.ModesWithin.{same_within, changes_within}
 
 -- ---- tables of which each row is something
@@ -38,7 +37,7 @@ abbrev pub AllRows : {X : Type 0} → (X → Type 0) → Table X → Type 0
 AllRows {X = X} P table = (fold : List ℕ) (x : X) → row table fold ≡ Some x → P x
 
 none_there : {X : Type 0} (P : X → Type 0) → AllRows P empty
-none_there P fold x is = not_none x (sym (get-empty fold_cmp fold) ∙ is)
+none_there P fold x is = absurd (none-some x (sym (get-empty fold_cmp fold) ∙ is))
 
 one_altered : {X : Type 0} (P : X → Type 0) (fold : List ℕ) (change : Option X → Option X)
     (table : Table X) → AllRows P table → ((x : X) → change (row table fold) ≡ Some x → P x)
@@ -59,7 +58,7 @@ there_altered {X = X} P fold change table all kept =
     one_altered P fold (option_and_then change) table all (by (row table fold) refl)
   where
     by : (o : Option X) → row table fold ≡ o → (x : X) → option_and_then change o ≡ Some x → P x
-    by None at x is = not_none x is
+    by None at x is = absurd (none-some x is)
     by (Some before) at x is = kept before x (all fold before at) is
 
 pub there_mapped : {X : Type 0} (P : X → Type 0) (fold : List ℕ) (change : X → X) (table : Table X)
@@ -69,7 +68,7 @@ there_mapped {X = X} P fold change table all kept =
     one_altered P fold (option_map change) table all (by (row table fold) refl)
   where
     by : (o : Option X) → row table fold ≡ o → (x : X) → option_map change o ≡ Some x → P x
-    by None at x is = not_none x is
+    by None at x is = absurd (none-some x is)
     by (Some before) at x is =
         subst P (same_Some (change before) x is) (kept before (all fold before at))
 
@@ -80,7 +79,7 @@ each_altered {X = X} P change table all kept q x is =
     by (row table q) refl (sym (row-each change table q) ∙ is)
   where
     by : (o : Option X) → row table q ≡ o → option_and_then change o ≡ Some x → P x
-    by None at is = not_none x is
+    by None at is = absurd (none-some x is)
     by (Some before) at is = kept before x (all q before at) is
 
 one_moved : {X : Type 0} (P : X → Type 0) (old new : List ℕ) (change : X → X) (table : Table X)
@@ -92,7 +91,7 @@ one_moved {X = X} P old new change table all kept q x is = by_row (row table old
         → cond b (Some (change before)) (cond c None (row table q)) ≡ Some x → P x
     by_fold before at true c is =
         subst P (same_Some (change before) x is) (kept before (all old before at))
-    by_fold before at false true is = not_none x is
+    by_fold before at false true is = absurd (none-some x is)
     by_fold before at false false is = all q x is
 
     by_row : (o : Option X) → row table old ≡ o → P x
@@ -142,7 +141,7 @@ while_within : (channel after : Channel) → IsChannelWithin channel
 while_within channel after within is = by (is_nil (keys channel.members)) is
   where
     by : (b : Bool) → (if b then None else Some channel) ≡ Some after → IsChannelWithin after
-    by true is = not_none after is
+    by true is = absurd (none-some after is)
     by false is = subst IsChannelWithin (same_Some channel after is) within
 
 left_within : (nick : List ℕ) (before after : Channel) → IsChannelWithin before
@@ -221,7 +220,7 @@ after_is_within_limits room (Rename nick new) within keeps = record {
 }
 after_is_within_limits room (Quit nick text) within keeps = record {
   users = one_altered IsUserWithin (key nick) (λ _. None) room.users within.users
-      (λ x is. not_none x is);
+      (λ x is. absurd (none-some x is));
   channels = each_altered IsChannelWithin (without_user (key nick)) room.channels within.channels
       (gone_within (key nick));
 }

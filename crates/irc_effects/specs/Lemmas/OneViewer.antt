@@ -6,6 +6,7 @@ use Rattle.std.specs.List.{AllByRecursion, cons_option}
 use Rattle.std.specs.Option.{option_and_then}
 use Rattle.std.specs.FinMap.{entries, entries_sorted, values, find, is_sorted, get-entries}
 use Rattle.std.proofs.Math.Facts.{and_yes}
+use Rattle.std.proofs.lemmas.Option.{none-some}
 use Rattle.irc_names.specs.Fold.{key, same}
 use Rattle.irc_names.specs.FoldLaws.{same-ties, same-equivalence}
 use Rattle.irc_names.specs.Tables.{fold_cmp, row}
@@ -14,7 +15,6 @@ use Rattle.irc_users.specs.declared.user.User.{User}
 use Rattle.irc_effects.specs.declared.effect.Effect.{Effect}
 use Rattle.irc_effects.specs.Room.{Room, IsWellFormed}
 use Rattle.irc_effects.specs.Seen.{Showing, seen, shown_to, sees, shown_line}
-use Rattle.irc_effects.specs.Lemmas.Rows.{not_none}
 use Rattle.irc_effects.specs.Lemmas.ViewerLaws.{below_none, IsNamed, table_named, IsOwn}
 use Rattle.irc_effects.specs.Lemmas.ViewerLaws.{own_showing}
 use Rattle.irc_effects.specs.Effects.{is_idle}
@@ -51,7 +51,7 @@ nothing_shown viewer shown own (e ∷ es) named none =
     by_fold : (find fold_cmp (key viewer) es ≡ None → to_one viewer shown es ≡ []) → (b : Bool)
         → same_fold (key viewer) e.0 ≡ b → cond b (Some e.1) (find fold_cmp (key viewer) es) ≡ None
         → to_one viewer shown (e ∷ es) ≡ []
-    by_fold rest true one found = not_none e.1 (sym found)
+    by_fold rest true one found = absurd (none-some e.1 (sym found))
     by_fold rest false two found = one_skipped viewer shown own e es named.0 two ∙ rest found
 
 chosen : (viewer : List ℕ) (shown : User → Option Showing) → IsOwn shown

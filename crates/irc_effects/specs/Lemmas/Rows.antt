@@ -1,6 +1,6 @@
 -- What a table answers at a fold after a change of one row, and when it has a row at all.
 use Rattle.std.proofs.Common.{◌≡◌, ℕ, Bool, true, false, cond, not, ◌||◌, if◌then◌else◌, Option}
-use Rattle.std.proofs.Common.{Some, None, List, [], ◌∷◌, refl, sym, ◌∙◌, ap, is_some, length}
+use Rattle.std.proofs.Common.{None, List, [], ◌∷◌, refl, sym, ◌∙◌, ap, is_some, length}
 use Rattle.std.proofs.Common.{Result, Ok, Err}
 use Rattle.std.proofs.lemmas.List.{length-map}
 use Rattle.std.specs.Prelude.{IfOk}
@@ -12,9 +12,6 @@ use Rattle.irc_names.specs.TableLaws.{same_fold, same_fold-refl, one_fold, row-a
 use Rattle.irc_names.specs.TableLaws.{same_table}
 use Rattle.irc_users.specs.declared.user.User.{User}
 use Rattle.irc_modes.specs.Modes.{is_nil}
-
-pub not_none : {A X : Type 0} (x : X) → None ≡ Some x → A
-not_none x e = cc
 
 pub if_not : {X : Type 0} (b : Bool) (x y : X) → not b ≡ true → (if b then x else y) ≡ y
 if_not true x y e = absurd (false≢true e)

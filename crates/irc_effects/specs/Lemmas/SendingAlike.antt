@@ -3,7 +3,7 @@ use Rattle.std.proofs.Common.{◌≡◌, ℕ, Bool, true, false, cond, Option, S
 use Rattle.std.proofs.Common.{refl, sym, ◌∙◌, ap, subst, is_some, option_map, length, ◌≤◌}
 use Rattle.std.specs.List.{AllByRecursion}
 use Rattle.std.specs.Option.{IfSome, option_map_or}
-use Rattle.std.proofs.lemmas.Option.{same_Some}
+use Rattle.std.proofs.lemmas.Option.{same_Some, none-some}
 use Rattle.irc_line.specs.Limits.{max_line}
 use Rattle.irc_line.specs.Messages.{joined_text}
 use Rattle.irc_names.specs.Fold.{key}
@@ -29,7 +29,6 @@ use Rattle.irc_effects.specs.Sendable.{IsSendable}
 use Rattle.irc_effects.specs.Invitations.{is_at, inviting_only}
 use Rattle.irc_effects.specs.OtherInvitations.{uninviting, AreAlike}
 use Rattle.irc_effects.specs.SentAlike.{AlikeSendAlike, AlikeKeepLimits, HomeKnowsItsInvited}
-use Rattle.irc_effects.specs.Lemmas.Rows.{not_none}
 use Rattle.irc_effects.specs.Lemmas.HomeRooms.{row-of_home}
 
 abbrev name_of : Channel → List ℕ
@@ -148,7 +147,7 @@ module _ (room other : Room) (alike : AreAlike room other) where
   channel_within : (channel : Channel) (found : Option Channel)
       → ((before : Channel) → found ≡ Some before → IsChannelWithin before)
       → option_map uninviting found ≡ Some (uninviting channel) → IsChannelWithin channel
-  channel_within channel None within same = not_none (uninviting channel) same
+  channel_within channel None within same = absurd (none-some (uninviting channel) same)
   channel_within channel (Some before) within same =
       of_uninvited channel
       (subst IsChannelWithin (same_Some (uninviting before) (uninviting channel) same)

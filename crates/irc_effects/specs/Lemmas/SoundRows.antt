@@ -3,7 +3,7 @@
 use Rattle.std.proofs.Common.{◌≡◌, ℕ, Bool, true, false, cond, Option, Some, None, List, refl, sym}
 use Rattle.std.proofs.Common.{◌∙◌, ap, subst, is_some, if◌then◌else◌}
 use Rattle.std.specs.FinMap.{empty, keys, get-empty}
-use Rattle.std.proofs.lemmas.Option.{same_Some}
+use Rattle.std.proofs.lemmas.Option.{same_Some, none-some}
 use Rattle.std.proofs.Math.Bool.{false≢true}
 use Rattle.irc_names.specs.Fold.{key}
 use Rattle.irc_names.specs.Tables.{Table, fold_cmp, row, alter, moved}
@@ -15,7 +15,7 @@ use Rattle.irc_channels.specs.Channels.{has_member, new_channel, joined, left, w
 use Rattle.irc_channels.specs.Channels.{while_members, invited_too, with_topic, renamed}
 use Rattle.irc_modes.specs.Modes.{is_nil}
 use Rattle.irc_effects.specs.Room.{IsSoundRow}
-use Rattle.irc_effects.specs.Lemmas.Rows.{some_key, some_row, not_none}
+use Rattle.irc_effects.specs.Lemmas.Rows.{some_key, some_row}
 
 -- each fold that stands in one table stands in another
 pub record IsWithin {X Y : Type 0} (small : Table X) (large : Table Y) : Type 0 where
@@ -156,7 +156,7 @@ while_sound users fold channel after names = by_test (is_nil (keys channel.membe
   where
     by_test : (b : Bool) → is_nil (keys channel.members) ≡ b
         → (if b then None else Some channel) ≡ Some after → IsSoundRow users fold after
-    by_test true some is = not_none after is
+    by_test true some is = absurd (none-some after is)
     by_test false some is = subst (IsSoundRow users fold) (same_Some channel after is)
         (sound users fold channel names some)
 

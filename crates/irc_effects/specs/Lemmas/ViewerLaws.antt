@@ -9,7 +9,7 @@ use Rattle.std.specs.List.{AllByRecursion, cons_option}
 use Rattle.std.specs.List.Sorted.{IsStrictlySortedBy}
 use Rattle.std.specs.FinMap.{entries, entries_sorted, values, find, is_sorted, get-entries}
 use Rattle.std.specs.FinMap.Entries.{below_all}
-use Rattle.std.proofs.lemmas.Option.{same_Some}
+use Rattle.std.proofs.lemmas.Option.{same_Some, none-some}
 use Rattle.std.proofs.Math.Facts.{and_yes}
 use Rattle.irc_names.specs.Fold.{key, name_cmp}
 use Rattle.irc_names.specs.Tables.{Table, fold_cmp, row}
@@ -20,7 +20,6 @@ use Rattle.irc_effects.specs.Room.{Room}
 use Rattle.irc_effects.specs.Effects.{is_idle}
 use Rattle.irc_effects.specs.Seen.{Showing, seen, shown_to, shown_line, sees}
 use Rattle.irc_effects.specs.Laws.{EachViewerOnce}
-use Rattle.irc_effects.specs.Lemmas.Rows.{not_none}
 
 -- a fold below all those of a list is none of them
 less_apart : (o : Ordering) → T (is_lt o) → is_eq o ≡ false
@@ -119,10 +118,10 @@ shown_rise shown own (e ∷ es) named rise =
 own_line : (b : Bool) (user : User) (line : Option (List ℕ)) (showing : Showing)
     → (if b then option_map (λ l. record { viewer = user.nick; line = l }) line else None)
     ≡ Some showing → showing.viewer ≡ user.nick
-own_line true user None showing is = not_none showing is
+own_line true user None showing is = absurd (none-some showing is)
 own_line true user (Some l) showing is = sym (ap (λ (s : Showing). s.viewer)
     (same_Some (record { viewer = user.nick; line = l }) showing is))
-own_line false user line showing is = not_none showing is
+own_line false user line showing is = absurd (none-some showing is)
 
 pub own_showing : (room : Room) (effect : Effect) → IsOwn (shown_to room effect)
 own_showing room effect = record {

@@ -3,7 +3,7 @@ use Rattle.std.proofs.Common.{◌≡◌, ℕ, Bool, true, false, cond, Option, S
 use Rattle.std.proofs.Common.{sym, ◌∙◌, ap, subst, is_some, unwrap_or, option_map}
 use Rattle.std.specs.Option.{option_and_then}
 use Rattle.std.specs.FinMap.{get-empty}
-use Rattle.std.proofs.lemmas.Option.{same_Some}
+use Rattle.std.proofs.lemmas.Option.{same_Some, none-some}
 use Rattle.std.specs.Cmp.{first_so, second_so}
 use Rattle.irc_names.specs.Fold.{key}
 use Rattle.irc_names.specs.Tables.{Table, fold_cmp, row, alter, each, moved}
@@ -20,7 +20,6 @@ use Rattle.irc_effects.specs.declared.effect.Effect.TheVariants.{Invite, ChangeU
 use Rattle.irc_effects.specs.Room.{Room, IsWellFormed, IsSoundRow}
 use Rattle.irc_effects.specs.After.{after, alter_user, alter_channel}
 use Rattle.irc_effects.specs.Laws.{AfterIsWellFormed, NoRoomIsWellFormed}
-use Rattle.irc_effects.specs.Lemmas.Rows.{not_none}
 use Rattle.irc_effects.specs.Lemmas.SoundRows.{IsWithin, IsKnown, known, sound_more, left_sound}
 use Rattle.irc_effects.specs.Lemmas.SoundRows.{without_sound, renamed_sound, joined_sound}
 use Rattle.irc_effects.specs.Lemmas.SoundRows.{new_known, invited_sound, topic_sound}
@@ -57,7 +56,7 @@ there_altered room name change well kept = channel_altered room name (option_and
   where
     by_row : (o : Option Channel) → row room.channels (key name) ≡ o → (after : Channel)
         → option_and_then change o ≡ Some after → IsSoundRow room.users (key name) after
-    by_row None at after is = not_none after is
+    by_row None at after is = absurd (none-some after is)
     by_row (Some before) at after is =
         kept before after (well.channels_sound (key name) before at) is
 
@@ -70,7 +69,7 @@ there_mapped room name change well kept =
   where
     by_row : (o : Option Channel) → row room.channels (key name) ≡ o → (after : Channel)
         → option_map change o ≡ Some after → IsSoundRow room.users (key name) after
-    by_row None at after is = not_none after is
+    by_row None at after is = absurd (none-some after is)
     by_row (Some before) at after is =
         subst (IsSoundRow room.users (key name)) (same_Some (change before) after is)
         (kept before (well.channels_sound (key name) before at))
@@ -89,7 +88,7 @@ all_altered room users change well named kept = record {
   where
     by_row : (fold : List ℕ) (o : Option Channel) → row room.channels fold ≡ o → (after : Channel)
         → option_and_then change o ≡ Some after → IsSoundRow users fold after
-    by_row fold None at after is = not_none after is
+    by_row fold None at after is = absurd (none-some after is)
     by_row fold (Some before) at after is =
         kept fold before after (well.channels_sound fold before at) is
 
@@ -143,7 +142,7 @@ with_mode room nick change well =
   where
     by_row : (o : Option User) → row room.users (key nick) ≡ o → (user : User)
         → option_map (with_change change) o ≡ Some user → key user.nick ≡ key nick
-    by_row None at user is = not_none user is
+    by_row None at user is = absurd (none-some user is)
     by_row (Some before) at user is =
         ap (λ (u : User). key u.nick) (sym (same_Some (with_change change before) user is))
         ∙ well.users_named (key nick) before at
@@ -155,7 +154,7 @@ quit_named users nick named fold user is =
     by_fold (same_fold fold nick) (sym (row-alter nick (λ _. None) users fold) ∙ is)
   where
     by_fold : (b : Bool) → cond b None (row users fold) ≡ Some user → key user.nick ≡ fold
-    by_fold true is = not_none user is
+    by_fold true is = absurd (none-some user is)
     by_fold false is = named fold user is
 
 without_user_well : (room : Room) (nick : List ℕ) → IsWellFormed room
@@ -177,7 +176,7 @@ moved_named users old new named there fold user is = by_row (row users old) refl
         (Some (with_nick new x)) (cond c None (row users fold)) ≡ Some user → key user.nick ≡ fold
     by_fold x true c one is = ap (λ (u : User). key u.nick)
         (sym (same_Some (with_nick new x) user is)) ∙ sym (one_fold fold (key new) one)
-    by_fold x false true one is = not_none user is
+    by_fold x false true one is = absurd (none-some user is)
     by_fold x false false one is = named fold user is
 
     by_row : (o : Option User) → row users old ≡ o → is_some o ≡ true → key user.nick ≡ fold
@@ -218,8 +217,9 @@ joined_well room nick name op well there =
 
 pub no_room_is_well_formed : NoRoomIsWellFormed
 no_room_is_well_formed = record {
-  users_named = λ nick user is. not_none user (sym (get-empty fold_cmp nick) ∙ is);
-  channels_sound = λ fold channel is. not_none channel (sym (get-empty fold_cmp fold) ∙ is);
+  users_named = λ nick user is. absurd (none-some user (sym (get-empty fold_cmp nick) ∙ is));
+  channels_sound =
+      λ fold channel is. absurd (none-some channel (sym (get-empty fold_cmp fold) ∙ is));
 }
 
 pub after_is_well_formed : AfterIsWellFormed

@@ -8,7 +8,7 @@ use Rattle.std.proofs.lemmas.List.Folds.{list_any-append}
 use Rattle.std.proofs.lemmas.List.Sums.{sum_by-append}
 use Rattle.std.proofs.Math.Bool.{or-false}
 use Rattle.std.proofs.lemmas.Bool.{or_left}
-use Rattle.irc_names.specs.Lemmas.PlainFacts.{and_neither}
+use Rattle.irc_names.specs.Lemmas.PlainFacts.{and_neither, and_not}
 use Rattle.irc_outbox.specs.Calls.{Call, written, written_by, times_closed, is_close_of}
 use Rattle.irc_batch.specs.Batches.{Sent, end_of, end_of_link, line_on, line_to}
 use Rattle.irc_engine.specs.declared.kind.ConnectionKind.{ConnectionKind}
@@ -265,10 +265,6 @@ pub nothing_owed : (is_open : Bool) (conn : ℕ) (outs : List Sent) → answers 
 nothing_owed true conn outs none = none
 nothing_owed false conn outs none = refl
 
-pub still : (t c : Bool) → c ≡ false → t ≡ (t && not c)
-still true c is = ap not (sym is)
-still false c is = refl
-
 pub untouched_fate : (conn : ℕ) (calls : List Call) (outs : List Sent) → IsElsewhere conn calls outs
     → (connection : Option Connection) → Fate conn connection calls outs connection
 untouched_fate conn calls outs apart None = apart.silent
@@ -279,7 +275,7 @@ untouched_fate conn calls outs apart (Some connection) = record {
       ∙ append-nil connection.outbox.bytes
       ∙ ap (λ xs. xs ++ connection.outbox.bytes) (sym apart.silent.nothing);
   same_room = refl;
-  still_open = still (is_some connection.framer) (is_closed_by conn outs) apart.never_closed;
+  still_open = and_not (is_some connection.framer) (is_closed_by conn outs) apart.never_closed;
   never = apart.silent.never;
   never_cut = apart.never_cut;
 }

@@ -19,7 +19,7 @@ use Rattle.irc_engine.specs.Lemmas.Stills.{still_by_event}
 
 -- ---- booleans
 
-shut_by : (a t x : Bool)
+pub shut_by : (a t x : Bool)
     → ((a || false) && not (t || x)) ≡ ((a || false) && not (x || (t || false)))
 shut_by a true true = refl
 shut_by a true false = refl
@@ -30,7 +30,7 @@ as_ended : (a x : Bool) → ((a || false) && not x) ≡ ((a || false) && not (x 
 as_ended a true = refl
 as_ended a false = refl
 
-ended_as : (x t : Bool) → (x || (t || false)) ≡ true → (t ≡ false → x ≡ true)
+pub ended_as : (x t : Bool) → (x || (t || false)) ≡ true → (t ≡ false → x ≡ true)
 ended_as true t ended none = refl
 ended_as false true ended none = cc none
 ended_as false false ended none = cc ended

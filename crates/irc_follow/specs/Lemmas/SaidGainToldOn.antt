@@ -10,6 +10,7 @@ use Rattle.std.specs.FinMap.{get}
 use Rattle.std.specs.List.{cons_option, list_all}
 use Rattle.std.specs.Option.{option_map_or}
 use Rattle.std.proofs.Math.Bool.{or-true}
+use Rattle.irc_names.specs.Lemmas.PlainFacts.{nat_eq-unlike}
 use Rattle.irc_batch.specs.declared.close_reason.CloseReason.{CloseReason}
 use Rattle.irc_batch.specs.declared.close_reason.CloseReason.TheVariants as reason
 use Rattle.irc_line.specs.Bytes.{has_nul}
@@ -54,7 +55,6 @@ use Rattle.irc_follow.specs.Laws.{GoesOn, SaidGainGoesOn}
 use Rattle.irc_follow.specs.Says.{neighbour_served, body, lines_on, machine, saying, Says}
 use Rattle.irc_follow.specs.Says.{IsDoableGain}
 use Rattle.irc_follow.specs.Lemmas.CarriedLines.{server_carried}
-use Rattle.irc_follow.specs.Lemmas.MemberLines.{other_byte}
 use Rattle.irc_follow.specs.Lemmas.Neighbours.{IsKnownOfLines}
 use Rattle.irc_follow.specs.Lemmas.Neighbours as beside
 use Rattle.irc_follow.specs.Lemmas.EffectsReadNext.{distance_at, low_token}
@@ -97,7 +97,7 @@ pub text_no_nul : (bytes : List ℕ) → list_all is_text_byte bytes ≡ true �
 text_no_nul [] all = refl
 text_no_nul (byte ∷ bytes) all =
     ap (λ b. b || has_nul bytes)
-    (other_byte is_text_byte 0x00 byte refl (first_so (is_text_byte byte) _ all))
+    (nat_eq-unlike is_text_byte 0x00 byte refl (first_so (is_text_byte byte) _ all))
     ∙ text_no_nul bytes (second_so (is_text_byte byte) _ all)
 
 some_digits : (digits : List ℕ) → is_number digits ≡ true → digits ≢ []

@@ -57,7 +57,7 @@ use Rattle.irc_link_words.specs.Words.{is_mode_word, names_nick}
 use Rattle.irc_stage.specs.View.{End, View}
 use Rattle.irc_server.specs.Heard.{heard, of_met, opened}
 use Rattle.irc_wire.specs.Lemmas.LinesReadBack.{carried_no_nul, command_plain, from_plain}
-use Rattle.irc_wire.specs.Lemmas.ModesRead.{changes_again, changes_taken}
+use Rattle.irc_wire.specs.Lemmas.ModesRead.{changes_again, changes_taken, nick_so}
 use Rattle.irc_modes.specs.Lemmas.FewChanges.{letters_few}
 use Rattle.irc_wire.specs.Lemmas.ModeWords.{mode_words, worded_counted, words_plain}
 use Rattle.irc_wire.specs.Lemmas.NameKinds.{channel-for_channel}
@@ -112,10 +112,6 @@ all_checked true true false effects parameters_so direction_so names_so = cc nam
 all_checked true true true effects parameters_so direction_so names_so = refl
 
 -- ---- changes of modes
-
-nick_so : (member fits : Bool) → fits ≡ true → (if member then fits else true) ≡ true
-nick_so true fits so = so
-nick_so false fits so = refl
 
 members_named : (changes : List ModeChange) → list_all has_its_word changes ≡ true
     → are_members_named changes ≡ true

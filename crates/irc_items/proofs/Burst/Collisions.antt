@@ -3,8 +3,8 @@
 -- does nothing. Which lines may be so answered.
 use Rattle.std.proofs.Common.{◌≡◌, ◌≢◌, ◌⊎◌, inl, inr, ℕ, ◌+◌, ◌≤◌, arith, cond, count_by, length}
 use Rattle.std.proofs.Common.{Bool, true, false, ◌&&◌, is_some, Some, None, Ok, List, [], ◌∷◌, ◌++◌}
-use Rattle.std.proofs.Common.{◌≤◌, zero, suc, arith, bytes_eq, codes, lit≤, map, nat_eq, option_map}
-use Rattle.std.proofs.Common.{take, refl, sym, ◌∙◌, ap, if◌then◌else◌, le_of_suc-le-suc}
+use Rattle.std.proofs.Common.{◌≤◌, arith, bytes_eq, codes, lit≤, map, nat_eq, option_map}
+use Rattle.std.proofs.Common.{take, refl, sym, ◌∙◌, ap, if◌then◌else◌, take-take}
 use Rattle.std.proofs.lemmas.Bool.{eq-eqb, and_from}
 use Rattle.std.proofs.lemmas.List.Sums.{count_by-le-length, sum_by-cons}
 use Rattle.std.specs.Option.{option_map_or}
@@ -246,22 +246,11 @@ kill_unheard laws s world routes p t nick view fixed fits linked among nick_name
 abbrev pub introduces : List ℕ → Bool
 introduces line = bytes_eq (take 5 line) (codes "NICK ")
 
-front_of_front : (few all : ℕ) (bytes : List ℕ) → few ≤ all
-    → take few (take all bytes) ≡ take few bytes
-front_of_front zero all bytes fits = refl
-front_of_front (suc few) zero bytes fits = absurd (none fits)
-  where
-    none : suc few ≤ 0 → ⊥
-    none so = omega arith
-front_of_front (suc few) (suc all) [] fits = refl
-front_of_front (suc few) (suc all) (byte ∷ bytes) fits =
-    ap (λ rest. byte ∷ rest) (front_of_front few all bytes (le_of_suc-le-suc fits))
-
 -- what is cut off makes no difference
 uncut : (parts : Written) → introduces (line_text parts) ≡ introduces (joined_text parts)
 unfolding line_text cut
 uncut parts = ap (λ front. bytes_eq front (codes "NICK "))
-    (front_of_front 5 max_line (joined_text parts) (lit≤ tt))
+    (take-take 5 max_line (joined_text parts) (lit≤ tt))
 
 pub user_introduces : (their_room : Room) (known : Known) (user : User)
     → introduces (line_text (wire their_room known (AddUser user))) ≡ true

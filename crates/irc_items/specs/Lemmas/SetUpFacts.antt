@@ -6,7 +6,7 @@ use Rattle.std.proofs.Common.{le_of_eq, one-add}
 use Rattle.std.proofs.lemmas.Bool.{le-ltb, lt-ltb, or_parts}
 use Rattle.std.proofs.lemmas.List.{length-map}
 use Rattle.std.proofs.lemmas.List.Sums.{sum_by-cons}
-use Rattle.std.proofs.lemmas.Option.{slice_get-map, slice_get_past, same_Some}
+use Rattle.std.proofs.lemmas.Option.{slice_get-map, slice_get_past, same_Some, none-some}
 use Rattle.std.specs.List.{cons_option, filter_map, list_any, position_or_len, slice_get}
 use Rattle.std.specs.Option.{option_and_then, option_map, option_map_or}
 use Rattle.std.proofs.Math.Bool.{or-true}
@@ -130,9 +130,6 @@ placed_if names a = by (list_any (same a) names) refl
 abbrev some_name : Name → Option Name
 some_name name = Some name
 
-not_named : {A B : Type 0} {x : A} → None ≡ Some x → B
-not_named e = absurd (cc e)
-
 -- nodes stand in the order of the names
 named_here : (net : Network) → IsSetUp net → (place : ℕ)
     → option_map named_at (node_at net place) ≡ option_map some_name (slice_get net.names place)
@@ -185,12 +182,12 @@ there net set_up server among = by_node (node_at net (index_in net.names server)
         → (o : Option View) → node.server ≡ o → IsThere net server
     by_view node at (Some view) is = of_view node at view is
     by_view node at None is =
-        not_named (same_Some _ _ (sym (ap (option_map named_at) at
-                  ∙ ap (λ o. Some (option_map (λ (v : View). v.routes.name) o)) is) ∙ given))
+        absurd (none-some _ (same_Some _ _ (sym (ap (option_map named_at) at
+                    ∙ ap (λ o. Some (option_map (λ (v : View). v.routes.name) o)) is) ∙ given)))
 
     by_node : (o : Option Node) → node_at net (index_in net.names server) ≡ o → IsThere net server
     by_node (Some node) at = by_view node at node.server refl
-    by_node None at = not_named (sym (ap (option_map named_at) at) ∙ given)
+    by_node None at = absurd (none-some _ (sym (ap (option_map named_at) at) ∙ given))
 
 -- what is found under its name
 pub viewed : (net : Network) → IsSetUp net → (server : Name) → IsAmong net.names server
@@ -209,7 +206,7 @@ nowhere net server not_among =
 
 pub among_at : (names : List Name) (a : Name) (place : ℕ) → slice_get names place ≡ Some a
     → IsAmong names a
-among_at [] a place is = not_named is
+among_at [] a place is = absurd (none-some _ is)
 among_at (first ∷ names) a zero is =
     ap (λ b. b || list_any (same a) names) (same_when a first (sym (same_Some _ _ is)))
 among_at (first ∷ names) a (suc place) is =
@@ -240,7 +237,7 @@ counted_once (first ∷ names) a among = by (same a first) refl (counted_once na
 -- a name that is there once is at one place
 pub only_place : (names : List Name) (a : Name) (place : ℕ) → count_by (same a) names ≡ 1
     → slice_get names place ≡ Some a → index_in names a ≡ place
-only_place [] a place once is = not_named is
+only_place [] a place once is = absurd (none-some _ is)
 only_place (first ∷ names) a zero once is =
     place_is first a names true (same_when first a (same_Some _ _ is))
 only_place (first ∷ names) a (suc place) once is = by (tell first a) (only_place names a place)
@@ -287,7 +284,7 @@ at_place net set_up place node is_node = by (slice_get net.names place) refl
       is = only_place net.names server place
           (set_up.once server (among_at net.names server place is)) is;
     }
-    by None is = not_named (sym (given ∙ ap (option_map some_name) is))
+    by None is = absurd (none-some _ (sym (given ∙ ap (option_map some_name) is)))
 
 one_head : {X : Type 0} {x y : X} {xs ys : List X} → x ∷ xs ≡ y ∷ ys → x ≡ y
 one_head e = cc e
@@ -329,7 +326,8 @@ setting_found (node ∷ nodes) (first ∷ names) server named =
         (setting_of (filter_map setting_at nodes) server))
         (same_Some _ _ (sym (ap (option_map (λ (v : View). v.routes.name)) is) ∙ head))
         ∙ at_first view is (same first server) refl rest
-    by None is rest = not_named (sym (ap (option_map (λ (v : View). v.routes.name)) is) ∙ head)
+    by None is rest =
+        absurd (none-some _ (sym (ap (option_map (λ (v : View). v.routes.name)) is) ∙ head))
 
 pub setting_there : (net : Network) → IsSetUp net → (server : Name) → IsAmong net.names server
     → setting_of (settings_of net) server ≡ Some (setting_now (view_at net server))

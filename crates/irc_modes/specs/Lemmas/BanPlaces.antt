@@ -10,7 +10,7 @@ use Rattle.std.specs.declared.cmp.Ordering.{Ordering}
 use Rattle.std.specs.declared.cmp.Ordering.TheVariants.{Less, Equal, Greater}
 use Rattle.std.specs.Cmp.{first_so, second_so}
 use Rattle.std.proofs.lemmas.Bool.{and_from}
-use Rattle.irc_names.specs.Lemmas.PlainFacts.{list_all-filter}
+use Rattle.irc_names.specs.Lemmas.PlainFacts.{list_all-filter, list_all-at}
 use Rattle.irc_names.specs.Fold.{same, name_cmp}
 use Rattle.irc_names.specs.FoldLaws.{name_cmp-total, same-ties}
 use Rattle.irc_modes.specs.Bans.{before, rises}
@@ -161,13 +161,6 @@ unchanged mask (ban ∷ bans) none = by (same mask ban) none (λ others. unchang
     by true none later = cc
     by false none later = ap (λ xs. ban ∷ xs) (later none)
 
-all_at : {X : Type 0} (p : X → Bool) (xs : List X) (i : ℕ) (d : X) → list_all p xs ≡ true
-    → i < length xs → p (get_or xs i d) ≡ true
-all_at p [] i d all within = absurd (omega arith)
-all_at p (x ∷ xs) zero d all within = first_so (p x) (list_all p xs) all
-all_at p (x ∷ xs) (suc i) d all within =
-    all_at p xs i d (second_so (p x) (list_all p xs) all) (omega arith)
-
 -- of bans in order only one is the same as a mask
 alone : (mask ban : List ℕ) (bans : List (List ℕ)) (i : ℕ) → list_all (before ban) bans ≡ true
     → i < length bans → same mask (get_or bans i mask) ≡ true → same mask ban ≡ false
@@ -181,7 +174,7 @@ alone mask ban bans i all within here = by (side mask ban)
 
     by : Side mask ban → same mask ban ≡ false
     by (low lower not_high other) = other
-    by (level equal not_low not_high alike) = clash (all_at (before mask) bans i mask
+    by (level equal not_low not_high alike) = clash (list_all-at (before mask) bans i mask
         (all_level mask ban bans equal all) within) (side mask (get_or bans i mask))
     by (high not_low higher other) = other
 

@@ -10,6 +10,7 @@ use Rattle.std.specs.FinMap.{get, insert, remove, entries, entries_sorted, find,
 use Rattle.std.specs.FinMap.{get-entries}
 use Rattle.std.specs.Cmp.{first_so}
 use Rattle.std.proofs.lemmas.Bool.{or_right, or_parts}
+use Rattle.irc_names.specs.Lemmas.PlainFacts.{implied}
 use Rattle.irc_names.specs.Fold.{key, same}
 use Rattle.irc_names.specs.Tables.{row, alter}
 use Rattle.irc_names.specs.TableLaws.{same_fold, same_fold-refl, one_fold, row-alter, row-moved}
@@ -166,15 +167,11 @@ spelled_row machine matched conn nick is = by (row machine.room.users (key nick)
 
 -- Any possible effect is fit where clients and users are matched.
 
-or_false : (a b : Bool) → (not a || b) ≡ true → a ≡ true → b ≡ true
-or_false true b either is = either
-or_false false b either is = cc is
-
 free_new : (machine : RoomMachine) (nick new : List ℕ) → IsMatched machine
     → IsPossible machine.room (Rename nick new) → IsFreeFor nick new machine.clients
 free_new machine nick new matched possible conn name is same_new =
     same_new ∙ sym (key_by_same nick new
-    (or_false (has_user machine.room new) (same nick new) possible.nick_free
+    (implied (has_user machine.room new) (same nick new) possible.nick_free
     (ap (λ q. is_some (row machine.room.users q)) (sym same_new)
     ∙ here_row machine name (matched.registered_is_user conn name is))))
 

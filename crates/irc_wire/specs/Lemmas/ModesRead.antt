@@ -70,7 +70,7 @@ keeps_so plus letter.TopicLocked word so = so
 keeps_so plus letter.Private word so = so
 keeps_so plus letter.Secret word so = so
 
-nick_so : (member fits : Bool) → fits ≡ true → (if member then fits else true) ≡ true
+pub nick_so : (member fits : Bool) → fits ≡ true → (if member then fits else true) ≡ true
 nick_so true fits so = so
 nick_so false fits so = refl
 

@@ -1,6 +1,6 @@
 use Rattle.std.proofs.Common.{◌∙◌, sym, refl}
 use Rattle.std.proofs.Math.Bool.{false≢true}
-use Rattle.irc_effects.specs.Lemmas.Rows.{not_none}
+use Rattle.std.proofs.lemmas.Option.{none-some}
 use Rattle.irc_room.proofs.Refusals.{named_in, unchanged, served, idle_kept}
 use Rattle.irc_room.proofs.room.Room.change.Goals as goal
 
@@ -11,8 +11,8 @@ returns-in-Some-clause-changed c =
 
 pub returns-in-Some-clause-idle : goal.returns-in-Some-clause-idle
 returns-in-Some-clause-idle c =
-    λ idle none. not_none c.in-Some.fault
-    (sym none ∙ sym (c.in-Some.ensures (named_in _ _ _ _ c.self.view_is c.named-named.ensures)))
+    λ idle none. absurd (none-some c.in-Some.fault (sym none
+            ∙ sym (c.in-Some.ensures (named_in _ _ _ _ c.self.view_is c.named-named.ensures))))
 
 pub returns-then-is_idle-clause-changed : goal.returns-then-is_idle-clause-changed
 returns-then-is_idle-clause-changed c =
