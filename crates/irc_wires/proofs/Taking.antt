@@ -1,5 +1,5 @@
 -- Bytes that come part by part.
-use Rattle.std.proofs.Common.{◌≡◌, ℕ, zero, suc, ◌+◌, ◌-◌, ◌≤◌, min, false, not, List, [], ◌∷◌}
+use Rattle.std.proofs.Common.{◌≡◌, ℕ, ◌+◌, ◌-◌, ◌≤◌, min, false, not, List, [], ◌∷◌}
 use Rattle.std.proofs.Common.{◌++◌, drop, take, length, refl, sym, ◌∙◌, ap, arith, append-nil}
 use Rattle.std.proofs.Common.{append_assoc, length-drop, take-add}
 use Rattle.std.proofs.lemmas.List.{drop-drop, drop_min, take_min}
@@ -7,10 +7,6 @@ use Rattle.irc_line.specs.Laws.{AreTakenInTurn, PiecesCompleteTheSame}
 use Rattle.irc_line.specs.Lines.{HasTaken, begun_behind, completed, stream_for}
 use Rattle.irc_wires.specs.Wires.{LinkWire, advanced, has_byte, is_none, lines_by}
 use Rattle.irc_wires.specs.Loops.Parts.{HasCome}
-
-take_empty : (n : ℕ) → ◌≡◌ {A = List ℕ} (take n []) []
-take_empty zero = refl
-take_empty (suc n) = refl
 
 module _ (pieces : PiecesCompleteTheSame) (old : LinkWire)
     (stream : HasTaken old.begun (stream_for old.begun)) where
