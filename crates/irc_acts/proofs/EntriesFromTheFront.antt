@@ -4,7 +4,7 @@ use Rattle.std.proofs.Common.{zero, suc, List, [], ◌∷◌, ◌++◌, length, 
 use Rattle.std.proofs.Common.{refl, sym, ◌∙◌, ap, arith, take-append-drop, length-take, length-drop}
 use Rattle.std.proofs.Common.{append-nil, eqb}
 use Rattle.std.specs.List.{list_any, slice_split, onto_first}
-use Rattle.std.proofs.lemmas.Bool.{eqb-true}
+use Rattle.std.proofs.lemmas.Bool.{eqb-true, not-false}
 use Rattle.std.proofs.lemmas.List.{drop_more, take_all, take_rest}
 use Rattle.irc_line.specs.Bytes.{begins}
 use Rattle.irc_modes.specs.Modes.{is_nil}
@@ -38,11 +38,7 @@ unfolding behind_comma
 first_piece [] [] none ends = refl
 first_piece [] (b ∷ rest) none ends =
     ap (λ v. cond v ([] ∷ slice_split is_comma rest) (onto_first b (slice_split is_comma rest)))
-    (double (is_comma b) ends)
-  where
-    double : (v : Bool) → not v ≡ false → v ≡ true
-    double true h = refl
-    double false h = cc h
+    (not-false (is_comma b) ends)
 first_piece (b ∷ entry) rest none ends =
     elim (is_comma b) as (λ v. (v || list_any is_comma entry) ≡ false
     → cond v ([] ∷ slice_split is_comma (entry ++ rest))
@@ -58,12 +54,7 @@ unfolding entries behind_comma
 later_entries [] ends = refl
 later_entries (b ∷ rest) ends =
     sym (ap (λ v. filter (λ entry. not (is_nil entry)) (cond v ([] ∷ slice_split is_comma rest)
-    (onto_first b (slice_split is_comma rest)))) (double (is_comma b) ends))
-  where
-    double : (v : Bool) → not v ≡ false → v ≡ true
-    double true h = refl
-    double false h = cc h
-
+    (onto_first b (slice_split is_comma rest)))) (not-false (is_comma b) ends))
 first_entry : (entry rest : List ℕ) → entry ≢ [] → list_any is_comma entry ≡ false
     → begins (λ b. not (is_comma b)) rest ≡ false → entries (entry ++ rest) ≡ entry ∷ entries rest
 unfolding entries

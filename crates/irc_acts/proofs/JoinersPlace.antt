@@ -1,7 +1,6 @@
 -- A joiner's place among the members, and the names that it is sent.
-use Rattle.std.specs.Prelude.{T}
 use Rattle.std.proofs.Common.{◌≡◌, ℕ, Bool, true, false, Some, None, List, [], ◌∷◌, ◌++◌, map, take}
-use Rattle.std.proofs.Common.{drop, refl, sym, ◌∙◌, ap, is_some, if◌then◌else◌}
+use Rattle.std.proofs.Common.{drop, sym, ◌∙◌, ap, is_some, if◌then◌else◌}
 use Rattle.std.proofs.lemmas.List.{map-append, take-append-drop}
 use Rattle.std.proofs.lemmas.List.Folds.{list_all-map}
 use Rattle.std.proofs.lemmas.List.Elements.{filter_map-append}
@@ -10,6 +9,8 @@ use Rattle.std.specs.Ordering.{is_lt}
 use Rattle.std.specs.Cmp.Lexicographic.{nat_list_cmp_total}
 use Rattle.std.specs.FinMap.{entries, entries_sorted, entries-insert, get-entries, is_sorted}
 use Rattle.std.specs.FinMap.Entries.{put as put_entry, find}
+use Rattle.std.proofs.lemmas.Bool.{true≢false}
+use Rattle.irc_names.specs.Lemmas.PlainFacts.{is_true}
 use Rattle.irc_names.specs.Fold.{key}
 use Rattle.irc_names.specs.Tables.{Table, alter, fold_cmp, row}
 use Rattle.irc_names.specs.TableLaws.{row-alter_same}
@@ -30,29 +31,21 @@ use Rattle.irc_acts.specs.Loops.FilledLines.{Came}
 use Rattle.irc_acts.specs.Loops.NameLines.{is_shown}
 use Rattle.irc_acts.specs.Lemmas.CameLines.{more_came, all_came}
 
-told : (b : Bool) → T b → b ≡ true
-told true h = refl
-told false h = absurd h
-
 -- a table's rows are in order
 pub rows_in_order : (members : Table Flags) (rows : List (Row Flags))
     → map row_entry rows ≡ entries members → IsInFoldedOrder row_entry rows
 unfolding IsInFoldedOrder
-rows_in_order members rows same = ap (is_sorted fold_cmp) same ∙ told _ (entries_sorted members)
+rows_in_order members rows same = ap (is_sorted fold_cmp) same ∙ is_true _ (entries_sorted members)
 
 -- no row has the nickname of one who is no member
 pub nowhere : (members : Table Flags) (rows : List (Row Flags)) (fold : List ℕ) (place : ℕ)
     → map row_entry rows ≡ entries members → is_some (row members fold) ≡ false
     → StandsAt row_entry rows fold place → ⊥
 nowhere members rows fold place same absent at =
-    never (sym (stands-present row_entry rows fold place (rows_in_order members rows same) at)
+    true≢false (sym (stands-present row_entry rows fold place (rows_in_order members rows same) at)
     ∙ ap is_some (row-table_of row_entry rows fold ∙ ap (find fold_cmp fold) same
     ∙ sym (get-entries members fold))
     ∙ absent)
-  where
-    never : true ≡ false → ⊥
-    never h = cc h
-
 -- the rows with one between those before its place and those behind
 pub put_at_place : (members : Table Flags) (rows : List (Row Flags)) (fold : List ℕ) (place : ℕ)
     → map row_entry rows ≡ entries members → BelongsAt row_entry rows fold place → (flags : Flags)

@@ -2,4 +2,3 @@ pub mod JoinersPlace
 pub mod EntriesFromTheFront
 pub mod CountedRows
 pub mod MovesAhead
-pub mod MappedRows

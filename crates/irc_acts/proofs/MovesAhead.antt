@@ -1,13 +1,15 @@
 -- What the room answers behind moves: each step makes of the answer before it what is said of it.
 use Rattle.std.proofs.Common.{◌≡◌, ◌≢◌, ◌≤◌, map, zero, suc, ℕ, ◌+◌, ◌-◌, Bool, true, false, cond}
 use Rattle.std.proofs.Common.{◌&&◌, if◌then◌else◌, fold, is_some, Option, Some, None, List, [], ◌∷◌}
-use Rattle.std.proofs.Common.{length, refl, sym, ◌∙◌, ap, subst, arith, unwrap_or}
+use Rattle.std.proofs.Common.{length, refl, sym, ◌∙◌, ap, subst, arith, unwrap_or, true≢false}
 use Rattle.std.proofs.lemmas.List.{length-map}
 use Rattle.std.specs.Option.{option_map, option_map_or, option_and_then}
 use Rattle.std.specs.List.{list_any}
 use Rattle.std.specs.Cmp.Lexicographic.{nat_list_cmp_total}
 use Rattle.std.specs.FinMap.{keys, values, entries, empty, len, insert, remove, len-empty}
 use Rattle.std.specs.FinMap.{len-entries, len-insert, len-remove, get-empty}
+use Rattle.std.proofs.lemmas.Bool.{cond-true, cond-false}
+use Rattle.irc_names.specs.Lemmas.PlainFacts.{none_if_not_some}
 use Rattle.irc_names.specs.Fold.{key, same}
 use Rattle.irc_names.specs.FoldLaws.{same-tells}
 use Rattle.irc_names.specs.Tables.{Table, fold_cmp, row, alter}
@@ -38,17 +40,6 @@ use Rattle.irc_acts.specs.Moves.{own_channels, members_at, IsMove, AreMoves, IsL
 use Rattle.irc_acts.specs.MoveLaws.{same_is_fold, row_changed, joins_row}
 use Rattle.irc_acts.specs.Loops.Moving.{flags_by, members_by, channels_by}
 use Rattle.irc_acts.proofs.CountedRows.{one_if, counted, passing_few}
-
-never : {A : Type 0} → true ≡ false → A
-never e = cc
-
-if_false : {X : Type 0} (b : Bool) (x y : X) → b ≡ false → cond b x y ≡ y
-if_false true x y e = never e
-if_false false x y e = refl
-
-if_true : {X : Type 0} (b : Bool) (x y : X) → b ≡ true → cond b x y ≡ x
-if_true true x y e = refl
-if_true false x y e = never (sym e)
 
 -- ---- how many rows a table has
 
@@ -109,7 +100,7 @@ members_with : (nick : List ℕ) (flags : Flags) (c : Channel)
     → has_member nick c ≡ false → (joined nick flags.op c).members
     ≡ alter nick (λ _. Some (record { op = flags.op; voice = false })) c.members
 members_with nick flags c none =
-    ap (λ (now : Channel). now.members) (if_false (has_member nick c) c (record c {
+    ap (λ (now : Channel). now.members) (cond-false (has_member nick c) c (record c {
       members = alter nick (λ _. Some (record { op = flags.op; voice = false })) c.members;
       invited = alter nick (λ _. None) c.invited;
     }) none)
@@ -120,23 +111,20 @@ without nick c = record c { members = alter nick (λ _. None) c.members }
 
 left_by : (nick : List ℕ) (c : Channel) → has_member nick c ≡ true
     → left nick c ≡ while_members (without nick c)
-left_by nick c there = if_true (has_member nick c) (while_members (without nick c)) (Some c) there
+left_by nick c there = cond-true (has_member nick c) (while_members (without nick c)) (Some c) there
 
 nil_has_none : {X : Type 0} (table : Table X) (q : List ℕ) → is_nil (keys table) ≡ true
     → row table q ≡ None
-nil_has_none table q nil = none_of (row table q) (sym (row-keys table q) ∙ nothing (keys table) nil)
+nil_has_none table q nil =
+    none_if_not_some (row table q) (sym (row-keys table q) ∙ nothing (keys table) nil)
   where
     nothing : (folds : List (List ℕ)) → is_nil folds ≡ true → list_any (same_fold q) folds ≡ false
     nothing [] e = refl
-    nothing (fold ∷ folds) e = never (sym e)
-
-    none_of : {X : Type 0} (o : Option X) → is_some o ≡ false → o ≡ None
-    none_of None e = refl
-    none_of (Some x) e = never e
+    nothing (fold ∷ folds) e = absurd (true≢false (sym e))
 
 nil_counts : {X : Type 0} (xs : List X) → is_nil xs ≡ true → length xs ≡ 0
 nil_counts [] e = refl
-nil_counts (x ∷ xs) e = never (sym e)
+nil_counts (x ∷ xs) e = absurd (true≢false (sym e))
 
 -- a channel that ended has no members as one without any
 flags_while : (nick : List ℕ) (c : Channel) → flags_in nick (while_members c) ≡ row c.members nick
@@ -197,7 +185,7 @@ join_members who name op o outside =
 
 leave_flags : (who nick : List ℕ) (o : Option Channel) → member_of (key who) o ≡ true
     → flags_in (key nick) (leaves_row who o) ≡ cond (same who nick) None (flags_in (key nick) o)
-leave_flags who nick None there = never (sym there)
+leave_flags who nick None there = absurd (true≢false (sym there))
 leave_flags who nick (Some c) there =
     ap (flags_in (key nick)) (left_by (key who) c there)
     ∙ flags_while (key nick) (without (key who) c)
@@ -206,7 +194,7 @@ leave_flags who nick (Some c) there =
 
 leave_members : (who : List ℕ) (o : Option Channel) → member_of (key who) o ≡ true
     → members_in (leaves_row who o) ≡ members_in o - 1
-leave_members who None there = never (sym there)
+leave_members who None there = absurd (true≢false (sym there))
 leave_members who (Some c) there = ap members_in (left_by (key who) c there)
     ∙ members_while (without (key who) c) ∙ one_less (key who) c.members there
 
@@ -429,14 +417,14 @@ while_some (suc n) name = name
 while_is : {X : Type 0} (xs : List X) (name : Option (List ℕ)) → is_nil xs ≡ false
     → while_some (length xs) name ≡ name
 unfolding while_some
-while_is [] name e = never e
+while_is [] name e = absurd (true≢false e)
 while_is (x ∷ xs) name e = refl
 
 leave_names : (who : List ℕ) (name : Option (List ℕ)) (o : Option Channel)
     → member_of (key who) o ≡ true → name_of o ≡ while_some (members_in o) name
     → name_of (leaves_row who o) ≡ while_some (members_in (leaves_row who o)) name
 unfolding while_some
-leave_names who name None there is = never (sym there)
+leave_names who name None there is = absurd (true≢false (sym there))
 leave_names who name (Some c) there is =
     subst (λ now. name_of now ≡ while_some (members_in now) name) (sym (left_by (key who) c there))
     (by_nil (is_nil (keys (without (key who) c).members)) refl)

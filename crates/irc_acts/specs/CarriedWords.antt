@@ -1,11 +1,10 @@
 -- What a line can carry of the words that clients give, and of names.
-use Rattle.std.proofs.Common.{◌≡◌, ℕ, zero, suc, ◌≤◌, Bool, true, false, not, ◌||◌, ◌&&◌, List, []}
-use Rattle.std.proofs.Common.{◌∷◌, length, take, nat_eq, refl, sym, ◌∙◌, ap, arith}
+use Rattle.std.proofs.Common.{◌≡◌, ℕ, zero, suc, Bool, true, false, not, ◌||◌, ◌&&◌, List, []}
+use Rattle.std.proofs.Common.{◌∷◌, take, nat_eq, refl, ◌∙◌, ap}
 use Rattle.std.specs.List.{list_all, AllByRecursion}
 use Rattle.std.specs.Char.{is_ascii_alphabetic, is_ascii_digit}
 use Rattle.std.specs.Cmp.{first_so, second_so}
-use Rattle.std.proofs.lemmas.Bool.{eqb-true}
-use Rattle.std.proofs.lemmas.List.{length-take}
+use Rattle.irc_names.specs.Lemmas.PlainFacts.{length-take_bound, nat_eq-unlike}
 use Rattle.irc_line.specs.Bytes.{is_line_end}
 use Rattle.irc_line.specs.Carried.{is_carried_byte, is_carried, IsCarried}
 use Rattle.irc_names.specs.Limits.{max_words}
@@ -18,23 +17,13 @@ use Rattle.irc_acts.specs.Words.{reason_given}
 
 -- ---- bytes of names
 
--- a byte that a rule takes is none of those that it refuses
-is_other : (allows : ℕ → Bool) (refused : ℕ) → allows refused ≡ false → (b : ℕ) → allows b ≡ true
-    → nat_eq b refused ≡ false
-is_other allows refused not_so b so = by (nat_eq b refused) refl
-  where
-    by : (test : Bool) → nat_eq b refused ≡ test → test ≡ false
-    by true is =
-        let clash : true ≡ false = sym so ∙ ap allows (eqb-true b refused is) ∙ not_so in cc
-    by false is = refl
-
 module _ (allows : ℕ → Bool) (no_nul : allows 0 ≡ false) (no_return : allows 13 ≡ false)
     (no_feed : allows 10 ≡ false) where
   one_carried : (b : ℕ) → allows b ≡ true → is_carried_byte b ≡ true
   one_carried b so =
-      ap (λ t. not (t || is_line_end b)) (is_other allows 0 no_nul b so)
-      ∙ ap (λ t. not (t || nat_eq b 10)) (is_other allows 13 no_return b so)
-      ∙ ap not (is_other allows 10 no_feed b so)
+      ap (λ t. not (t || is_line_end b)) (nat_eq-unlike allows 0 b no_nul so)
+      ∙ ap (λ t. not (t || nat_eq b 10)) (nat_eq-unlike allows 13 b no_return so)
+      ∙ ap not (nat_eq-unlike allows 10 b no_feed so)
 
   pub all_carried : (bytes : List ℕ) → list_all allows bytes ≡ true → IsCarried bytes
   all_carried [] all = refl
@@ -76,13 +65,11 @@ front_carried (suc n) (b ∷ bytes) all =
     ap (λ t. t && is_carried (take n bytes)) (first_so (is_carried_byte b) (is_carried bytes) all)
     ∙ front_carried n bytes (second_so (is_carried_byte b) (is_carried bytes) all)
 
-front_fits : (n : ℕ) (bytes : List ℕ) → length (take n bytes) ≤ n
-front_fits n bytes = let long = length-take n bytes in omega (arith, long)
-
 pub cut_carried : (text : List ℕ) → IsCarried text → IsCarriedText (cut_words text)
 unfolding cut_words
 cut_carried text carried =
-    record { fits = front_fits max_words text; carried = front_carried max_words text carried }
+    record { fits = length-take_bound max_words text;
+          carried = front_carried max_words text carried }
 
 pub reason_carried : (more : List (List ℕ)) (other : List ℕ) → AllByRecursion IsCarried more
     → IsCarried other → IsCarriedText (reason_given more other)

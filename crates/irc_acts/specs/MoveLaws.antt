@@ -1,6 +1,6 @@
 -- What follows where each effect of some steps is a move.
 use Rattle.std.proofs.Common.{◌≡◌, ℕ, Bool, true, false, cond, is_some, Option, Some, None, List}
-use Rattle.std.proofs.Common.{[], ◌∷◌, refl, sym, ◌∙◌, ap, unwrap_or, if◌then◌else◌}
+use Rattle.std.proofs.Common.{[], ◌∷◌, refl, sym, ◌∙◌, ap, unwrap_or, if◌then◌else◌, true≢false}
 use Rattle.std.specs.Option.{option_map_or, option_and_then}
 use Rattle.std.specs.FinMap.{keys}
 use Rattle.irc_names.specs.Fold.{key, same}
@@ -23,9 +23,6 @@ use Rattle.irc_acts.specs.Acts.{effects_among}
 use Rattle.irc_acts.specs.Ahead.{ahead}
 use Rattle.irc_acts.specs.Moves.{IsMove, AreMoves, IsLeave, AreLeaves, IsOwnJoin, AreOwnJoins}
 
-never : {A : Type 0} → true ≡ false → A
-never e = cc
-
 pub same_is_fold : (channel name : List ℕ) → same_fold (key name) (key channel) ≡ same channel name
 same_is_fold channel name =
     by_fold (same_fold (key name) (key channel)) (same channel name) refl refl
@@ -34,12 +31,11 @@ same_is_fold channel name =
     by_fold true true one alike = refl
     by_fold false false one alike = refl
     by_fold true false one alike =
-        never
-        (sym ((same-tells channel name).1 (sym (one_fold (key name) (key channel) one))) ∙ alike)
+        absurd (true≢false (sym ((same-tells channel name).1
+                  (sym (one_fold (key name) (key channel) one))) ∙ alike))
     by_fold false true one alike =
-        never (sym (same_fold-refl (key name))
-        ∙ ap (same_fold (key name)) (sym ((same-tells channel name).0 alike))
-        ∙ one)
+        absurd (true≢false (sym (same_fold-refl (key name))
+                ∙ ap (same_fold (key name)) (sym ((same-tells channel name).0 alike)) ∙ one))
 
 -- the row of a channel once the row of a channel is changed, by their names
 pub row_changed : (room : Room) (channel name : List ℕ) (change : Option Channel → Option Channel)
@@ -154,7 +150,7 @@ join_as_it_was nick name room (Join who channel op) joins outside =
         → cond b (joins_row who channel op (row room.channels (key name)))
         (row room.channels (key name))
         ≡ row room.channels (key name)
-    by_name true none = never (sym joins_it ∙ none)
+    by_name true none = absurd (true≢false (sym joins_it ∙ none))
     by_name false none = refl
 join_as_it_was nick name room other joins outside = absurd joins
 

@@ -1,9 +1,10 @@
 -- What is not read waits for something; and so on, which ends.
-use Rattle.std.proofs.Common.{◌≡◌, ◌≢◌, ℕ, ◌+◌, ◌≤◌, zero, suc, Bool, true, false, not, ◌||◌}
+use Rattle.std.proofs.Common.{◌≡◌, ◌≢◌, ℕ, ◌+◌, ◌≤◌, zero, suc, true, false, not, ◌||◌}
 use Rattle.std.proofs.Common.{List, [], ◌∷◌, ◌++◌, length, inl, inr, refl, sym, ap, subst, ◌∙◌}
 use Rattle.std.proofs.Common.{arith}
 use Rattle.std.proofs.lemmas.List.Sums.{count_by-le-length}
 use Rattle.std.specs.List.{list_any}
+use Rattle.std.proofs.lemmas.Bool.{or_right}
 use Rattle.irc_relay.specs.Links.{Name, same, Link, IsForest, joined}
 use Rattle.irc_relay.specs.Distances.{IsAmong, EndsAreAmong}
 use Rattle.irc_relay.specs.Lemmas.TellingNames.{alike, unlike, tell, same_when, same_unless}
@@ -19,12 +20,7 @@ at_head : (x : Name) (xs : List Name) → IsAmong (x ∷ xs) x
 at_head x xs = ap (λ b. b || list_any (same x) xs) (same_when x x refl)
 
 behind_head : (x : Name) (xs : List Name) (name : Name) → IsAmong xs name → IsAmong (x ∷ xs) name
-behind_head x xs name among = or_true (same name x) (list_any (same name) xs) among
-  where
-    or_true : (a b : Bool) → b ≡ true → (a || b) ≡ true
-    or_true true b e = refl
-    or_true false b e = e
-
+behind_head x xs name among = or_right (same name x) (list_any (same name) xs) among
 -- somebody is read, or there is another for whom too much waits
 data Found (full : List Name) (who : Name) : Type 0 where
   read : is_read_beside same full who ≡ true → Found full who

@@ -8,6 +8,7 @@ use Rattle.std.proofs.lemmas.List.Splits.{join_with_byte-slice_split}
 use Rattle.std.proofs.lemmas.Slice.Eq.{bytes_eq-Decides}
 use Rattle.std.specs.List.{flat_map, join_with_byte, list_all, slice_split, AllByRecursion}
 use Rattle.std.specs.Cmp.Lexicographic.{pointwise_decides}
+use Rattle.std.specs.Cmp.{second_so}
 use Rattle.irc_batch.specs.declared.close_reason.CloseReason.{CloseReason}
 use Rattle.irc_line.specs.Messages.{Parsed, message_of}
 use Rattle.irc_channels.specs.declared.flags.Flags.{Flags}
@@ -35,16 +36,12 @@ use Rattle.irc_burst.specs.GoingOn.{line_from, IsWrittenAs, ModesGoOn, TopicsGoO
 
 -- ---- words of a MODE
 
-and_right : (a b : Bool) → (a && b) ≡ true → b ≡ true
-and_right true b is = is
-and_right false b is = cc is
-
 rewritten : (words : List (List ℕ)) → are_changes words ≡ true
     → changes_written (changes_of words) ≡ words
 rewritten words taken =
     (pointwise_decides bytes_eq-Decides (changes_written (changes_of words)) words).0
-    (and_right (list_all keeps_word (changes_of words)) _
-    (and_right (list_all is_mode_word words) _ taken))
+    (second_so (list_all keeps_word (changes_of words)) _
+    (second_so (list_all is_mode_word words) _ taken))
 
 -- ---- lines that tell of effects
 

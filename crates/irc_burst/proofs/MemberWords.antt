@@ -6,6 +6,7 @@ use Rattle.std.proofs.lemmas.List.Splits.{length-slice_split, slice_split_first}
 use Rattle.std.proofs.lemmas.List.Folds.{list_all-map}
 use Rattle.std.specs.List.{list_all, slice_split, position_or_len, onto_first, before_first}
 use Rattle.std.specs.List.{after_first}
+use Rattle.std.proofs.Math.Bool.{and-true}
 use Rattle.irc_channels.specs.declared.flags.Flags.{Flags}
 use Rattle.irc_names.specs.Names.{is_nick}
 use Rattle.irc_burst.specs.DeedsMeant.{is_comma, member_of, members_of}
@@ -39,12 +40,7 @@ no_comma (byte ∷ text) past = by (is_comma byte) past (no_comma text)
 
 pub all_last : (f : List ℕ → Bool) (text : List ℕ) → length text ≤ position_or_len is_comma text
     → list_all f (slice_split is_comma text) ≡ f text
-all_last f text past = ap (list_all f) (no_comma text past) ∙ and_true (f text)
-  where
-    and_true : (b : Bool) → (b && true) ≡ b
-    and_true true = refl
-    and_true false = refl
-
+all_last f text past = ap (list_all f) (no_comma text past) ∙ and-true (f text)
 pub all_on : (f : List ℕ → Bool) (text : List ℕ) → position_or_len is_comma text < length text
     → list_all f (slice_split is_comma text) ≡ (f (before_first is_comma text)
     && list_all f (slice_split is_comma (after_first is_comma text)))

@@ -26,6 +26,8 @@ use Rattle.irc_merge.specs.Lemmas.ChannelRows.{comes, comes_to}
 use Rattle.irc_merge.specs.Lemmas.ChannelRows.{row_has}
 use Rattle.irc_merge.specs.Lemmas.BooleanTests.{and_not}
 use Rattle.std.proofs.lemmas.List.{map-append}
+use Rattle.std.proofs.Math.Bool.{and-true, or-false}
+use Rattle.irc_names.specs.Lemmas.PlainFacts.{and_neither}
 use Rattle.irc_room.specs.Room.{Room, IsWellFormed}
 use Rattle.irc_room.specs.Seen.{stored_nick}
 use Rattle.irc_link_reader.specs.declared.deed.NewMember.{NewMember}
@@ -125,11 +127,7 @@ module _ (far : List ℕ → Bool) (channel : List ℕ) where
   among_more : (members : List (List ℕ × Flags)) (member : List ℕ × Flags) (nick : List ℕ)
       → is_member_among (members ++ member ∷ []) nick
       ≡ (is_member_among members nick || same member.0 nick)
-  among_more [] member nick = or_false (same member.0 nick)
-    where
-      or_false : (b : Bool) → (b || false) ≡ b
-      or_false true = refl
-      or_false false = refl
+  among_more [] member nick = or-false (same member.0 nick)
   among_more (one ∷ members) member nick =
       ap (λ b. same one.0 nick || b) (among_more members member nick)
       ∙ regroup (same one.0 nick) (is_member_among members nick) (same member.0 nick)
@@ -144,14 +142,9 @@ module _ (far : List ℕ → Bool) (channel : List ℕ) where
   step_on first room members member step x =
       new_after room member x (same member.0 x.0) (same_is member.0 x.0 (same member.0 x.0) refl)
       ∙ ap (λ b. b && not (same member.0 x.0)) (step x)
-      ∙ logic (is_new_member far first channel x) (is_member_among members x.0) (same member.0 x.0)
+      ∙ and_neither (is_new_member far first channel x) (is_member_among members x.0)
+          (same member.0 x.0)
       ∙ ap (λ b. is_new_member far first channel x && not b) (sym (among_more members member x.0))
-    where
-      logic : (n a s : Bool) → ((n && not a) && not s) ≡ (n && not (a || s))
-      logic true true s = refl
-      logic true false s = refl
-      logic false a s = refl
-
   abbrev AreTaken : Room → List (List ℕ × Flags) → Type 0
   AreTaken first more = (room : Room) (members : List (List ℕ × Flags)) → InStep first room members
       → members ++ new_members far room channel more ≡ fold (taken first) members more
@@ -209,8 +202,4 @@ module _ (far : List ℕ → Bool) (channel : List ℕ) where
   members_taken room well more =
       stored_turn room well more []
       ∙ ap (map (as_stored room))
-      (sym (in_turn room more room [] (λ x. and_true (is_new_member far room channel x))))
-    where
-      and_true : (b : Bool) → b ≡ (b && true)
-      and_true true = refl
-      and_true false = refl
+      (sym (in_turn room more room [] (λ x. sym (and-true (is_new_member far room channel x)))))

@@ -5,6 +5,7 @@ use Rattle.std.proofs.lemmas.List.{map-append}
 use Rattle.std.specs.List.{flat_map, cons_option}
 use Rattle.std.specs.Option.{option_map, option_map_or, option_and_then}
 use Rattle.std.specs.FinMap.{entries, keys, values, retain_keys}
+use Rattle.std.proofs.lemmas.Simd.{map-map}
 use Rattle.irc_names.specs.Fold.{key}
 use Rattle.irc_names.specs.Tables.{Table, row, each}
 use Rattle.irc_names.specs.TableLaws.{row-each}
@@ -31,11 +32,6 @@ use Rattle.irc_burst_lines.specs.Loops.Telling.{row_parts, is_near_user, near_us
 use Rattle.irc_burst_lines.specs.Loops.Telling.{near_members, member_lines, settings_lines}
 use Rattle.irc_burst_lines.specs.Loops.Telling.{ban_lines, topic_lines, channel_lines, channel_told}
 use Rattle.irc_burst_lines.specs.Loops.Telling.{told_if}
-
-map_mapped : {X Y Z : Type 0} (f : Y → Z) (g : X → Y) (xs : List X)
-    → map f (map g xs) ≡ map (λ x. f (g x)) xs
-map_mapped f g [] = refl
-map_mapped f g (x ∷ xs) = ap (λ more. f (g x) ∷ more) (map_mapped f g xs)
 
 module _ (room : Room) (known : Known) (link : ℕ) where
   abbrev passes : List ℕ → Bool
@@ -179,14 +175,14 @@ module _ (room : Room) (known : Known) (link : ℕ) where
       let topped = topic_line known.name channel.name channel.topic in
       map-append written brought (set ++ (banned ++ topped))
       ∙ ap (λ ls. ls ++ map written (set ++ (banned ++ topped)))
-      (map_mapped written (brings known.name channel.name) (in_lines members_a_line members))
+      (map-map written (brings known.name channel.name) (in_lines members_a_line members))
       ∙ ap (λ ls. member_lines known.name channel.name members ++ ls) (
       map-append written set (banned ++ topped)
       ∙ ap (λ ls. ls ++ map written (banned ++ topped))
       (settings_written channel.name (set_changes channel.modes))
       ∙ ap (λ ls. settings_lines known.name channel.name (set_changes channel.modes) ++ ls) (
       map-append written banned topped
-      ∙ ap (λ ls. ls ++ map written topped) (map_mapped written (sets known.name channel.name)
+      ∙ ap (λ ls. ls ++ map written topped) (map-map written (sets known.name channel.name)
       (in_lines bans_a_line (ban_changes channel.modes.bans)))
       ∙ ap (λ ls. ban_lines known.name channel.name (ban_changes channel.modes.bans) ++ ls)
       (topic_written channel.name channel.topic)))
@@ -275,7 +271,7 @@ module _ (room : Room) (known : Known) (link : ℕ) where
       (values (side_of passes room).channels) in
       map-append written servers (us ++ cs)
       ∙ ap (λ ls. ls ++ map written (us ++ cs))
-      (map_mapped written server_deed (servers_told known link))
+      (map-map written server_deed (servers_told known link))
       ∙ ap (λ ls. map (row_parts known) (servers_told known link) ++ ls) (
       map-append written us cs
       ∙ ap (λ ls. ls ++ map written cs) users_told

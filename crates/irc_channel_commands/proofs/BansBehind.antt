@@ -1,6 +1,7 @@
 -- What is found among bans, and how many there are, behind one change of them.
 use Rattle.std.proofs.Common.{◌≡◌, ℕ, ◌+◌, ◌-◌, Bool, true, false, cond, not, Option, Some, None}
 use Rattle.std.proofs.Common.{List, [], ◌∷◌, length, find, is_some, suc, refl, sym, ◌∙◌, ap, arith}
+use Rattle.std.proofs.Common.{true≢false}
 use Rattle.std.specs.List.{position, remove}
 use Rattle.std.proofs.lemmas.List.Edits.{length-remove}
 use Rattle.irc_names.specs.Fold.{same}
@@ -52,9 +53,6 @@ one_more mask bans rising none =
     length_placed mask bans ∙ ap length
     (sym (is_placed mask bans rising (sym (find_any (same mask) bans) ∙ ap is_some none)))
 
-never : {A : Type 0} → true ≡ false → A
-never e = cc
-
 pub one_less : (mask there : List ℕ) (bans : List (List ℕ)) → rises bans ≡ true
     → find (same mask) bans ≡ Some there → length bans - 1 ≡ length (without_ban there bans)
 one_less mask there bans rising is = by (position (same there) bans) refl
@@ -70,7 +68,7 @@ one_less mask there bans rising is = by (position (same there) bans) refl
 
     by : (at : Option ℕ) → position (same there) bans ≡ at
         → length bans - 1 ≡ length (without_ban there bans)
-    by None none = never (sym stands ∙ ap is_some none)
+    by None none = absurd (true≢false (sym stands ∙ ap is_some none))
     by (Some i) found =
         let facts = taken_out there bans i rising found in
         less (length bans) (length (remove bans i)) (length-remove bans i facts.within)

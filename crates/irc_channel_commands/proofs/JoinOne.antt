@@ -1,10 +1,10 @@
 -- One channel of a JOIN, after the Joins of the channels before it.
 use Rattle.std.proofs.Common.{◌≡◌, ◌<◌, ℕ, Bool, true, false, not, Option, Some, None, List, []}
-use Rattle.std.proofs.Common.{◌∷◌, ◌++◌, length, nat_le, refl, sym, ◌∙◌, ap, subst, is_some, arith}
+use Rattle.std.proofs.Common.{◌∷◌, ◌++◌, length, nat_le, refl, sym, ◌∙◌, ap, subst, is_some}
 use Rattle.std.proofs.Common.{if◌then◌else◌}
-use Rattle.std.proofs.lemmas.Bool.Decides.{leb_tells}
 use Rattle.std.specs.Option.{option_map_or, option_and_then}
 use Rattle.std.specs.FinMap.{get-empty}
+use Rattle.std.proofs.lemmas.Bool.{lt-leb}
 use Rattle.irc_names.specs.Fold.{key}
 use Rattle.irc_names.specs.Names.{is_channel}
 use Rattle.irc_names.specs.Tables.{fold_cmp, row}
@@ -84,11 +84,7 @@ pub tested_few : (me : User) (room : Room) (steps acts : List Act) (count limit 
     → nat_le limit (length (own_channels (ahead room acts) me)) ≡ false
 tested_few me room steps acts count limit same is few =
     ap (λ s. nat_le limit (length (own_channels (ahead room s) me))) (sym same)
-    ∙ ap (nat_le limit) (sym is) ∙ below count limit few
-  where
-    below : (n m : ℕ) → n < m → nat_le m n ≡ false
-    below n m less = grind (arith, leb_tells m n)
-
+    ∙ ap (nat_le limit) (sym is) ∙ lt-leb limit count few
 -- a channel that may be joined is served as it was
 pub served_as : (me : User) (room : Room) (acts : List Act) (name given : List ℕ)
     → AreOwnJoins me.nick room acts → is_channel name ≡ true

@@ -1,8 +1,8 @@
 -- A limit, written without leading zeros, is short.
-use Rattle.std.proofs.Common.{◌≡◌, ◌≢◌, ◌⊎◌, inl, inr, ◌≤◌, ◌<◌, ◌+◌, ℕ, true, false, cond, List}
+use Rattle.std.proofs.Common.{◌≡◌, ◌≢◌, ◌≤◌, ◌<◌, ◌+◌, ℕ, true, cond, List}
 use Rattle.std.proofs.Common.{◌∷◌, length, drop, get_or, sym, ◌∙◌, ap, arith, nat_eq}
-use Rattle.std.proofs.lemmas.Bool.Decides.{eqb_tells}
 use Rattle.std.proofs.lemmas.List.{drop_more}
+use Rattle.std.proofs.lemmas.Bool.{ne_eqb}
 use Rattle.irc_modes.specs.Lemmas.LimitFacts.{limit-few}
 use Rattle.irc_modes.specs.Modes.{is_limit}
 use Rattle.irc_modes.specs.Limits.{max_mode_word}
@@ -27,18 +27,11 @@ one_zero digits i d within zero_there =
     ∙ ap (λ b. cond b (without_zeros (drop (i + 1) digits))
     (get_or digits i d ∷ drop (i + 1) digits)) (ap (λ n. nat_eq n 0x30) zero_there)
 
-differs_from : (a b : ℕ) → a ≢ b → nat_eq a b ≡ false
-differs_from a b other = by (eqb_tells a b)
-  where
-    by : ((nat_eq a b ≡ true) × (a ≡ b)) ⊎ ((nat_eq a b ≡ false) × (a ≢ b)) → nat_eq a b ≡ false
-    by (inl alike) = absurd (other alike.1)
-    by (inr apart) = apart.0
-
 -- another digit is the first that is written
 pub no_zero : (digits : List ℕ) (i d : ℕ) → i < length digits → get_or digits i d ≢ 0x30
     → without_zeros (drop i digits) ≡ drop i digits
 no_zero digits i d within other =
     ap without_zeros (drop_more digits i d within)
     ∙ ap (λ b. cond b (without_zeros (drop (i + 1) digits))
-    (get_or digits i d ∷ drop (i + 1) digits)) (differs_from (get_or digits i d) 0x30 other)
+    (get_or digits i d ∷ drop (i + 1) digits)) (ne_eqb (get_or digits i d) 0x30 other)
     ∙ sym (drop_more digits i d within)

@@ -1,6 +1,7 @@
 -- Who is a user after what is decided.
-use Rattle.std.proofs.Common.{◌≡◌, true, false, not, ◌||◌, refl, ap}
+use Rattle.std.proofs.Common.{◌≡◌, true, false, not, ◌||◌, refl, ap, true≢false}
 use Rattle.std.specs.List.{list_any}
+use Rattle.std.proofs.Math.Bool.{false≢true}
 use Rattle.irc_names.specs.Fold.{key}
 use Rattle.irc_names.specs.FoldLaws.{same-tells}
 use Rattle.irc_commands.specs.Comings.{adds_user, adds_or_ends, renames_other, is_effect, QuitFirst}
@@ -11,12 +12,6 @@ use Rattle.irc_acts.specs.Moves.{own_channels}
 use Rattle.irc_commands.proofs.NeverOwn.{never_own, none_leaving, own_adds_nobody, own_ends_nobody}
 use Rattle.irc_commands.proofs.NeverOwn.{own_renames_nobody}
 use Rattle.irc_commands.proofs.TableCases.{decided_so, registering_so}
-
-never : {A : Type 0} → false ≡ true → A
-never e = cc
-
-never_not : {A : Type 0} → true ≡ false → A
-never_not e = cc
 
 pub decided_adds_nobody : DecidedAddsNobody
 decided_adds_nobody room place who message =
@@ -51,16 +46,16 @@ who_stays_is_user room place who message =
       renamed = λ me nickname is named free stays. refl;
       leaves_all =
           λ me is stays. none_leaving me adds_or_ends (own_channels room me) (λ channel. refl);
-      quits = λ me reason line is reason_is stays. never_not stays;
+      quits = λ me reason line is reason_is stays. absurd (true≢false stays);
     })
 
 pub who_is_closed_quits : WhoIsClosedQuits
 who_is_closed_quits room place who message =
     decided_so room place who message (λ d. d.close ≡ true → QuitFirst room who d.steps) (record {
-      silent = λ closed. never closed;
-      own = λ me steps is own carries closed. never closed;
-      renamed = λ me nickname is named free closed. never closed;
-      leaves_all = λ me is closed. never closed;
+      silent = λ closed. absurd (false≢true closed);
+      own = λ me steps is own carries closed. absurd (false≢true closed);
+      renamed = λ me nickname is named free closed. absurd (false≢true closed);
+      leaves_all = λ me is closed. absurd (false≢true closed);
       quits = λ me reason line is reason_is closed. record {
         me = me;
         reason = reason;
@@ -75,10 +70,10 @@ pub registered_is_added : RegisteredIsAdded
 registered_is_added room place pending message =
     registering_so room place pending message (λ r. r.registered ≡ true
     → AddsFirst place r.pending.nick r.steps) (record {
-      silent = λ pending registered. never registered;
-      answered = λ pending reply registered. never registered;
-      told = λ pending line registered. never registered;
-      closed = λ pending line registered. never registered;
+      silent = λ pending registered. absurd (false≢true registered);
+      answered = λ pending reply registered. absurd (false≢true registered);
+      told = λ pending line registered. absurd (false≢true registered);
+      closed = λ pending line registered. absurd (false≢true registered);
       added = λ pending nickname username is free registered. record {
         user = _;
         behind = _;
@@ -97,7 +92,7 @@ unregistered_changes_nothing room place pending message =
       answered = λ pending reply unregistered. refl;
       told = λ pending line unregistered. refl;
       closed = λ pending line unregistered. refl;
-      added = λ pending nickname username is free unregistered. never_not unregistered;
+      added = λ pending nickname username is free unregistered. absurd (true≢false unregistered);
     })
 
 pub registered_stays : RegisteredStays
@@ -106,6 +101,6 @@ registered_stays room place pending message =
       silent = λ pending registered. refl;
       answered = λ pending reply registered. refl;
       told = λ pending line registered. refl;
-      closed = λ pending line registered. never registered;
+      closed = λ pending line registered. absurd (false≢true registered);
       added = λ pending nickname username is free registered. refl;
     })

@@ -1,10 +1,12 @@
 -- What a connection gives before it is registered keeps to the limits, and it is added as a user
 -- that other servers can be told of.
-use Rattle.std.proofs.Common.{◌≡◌, ◌≢◌, ℕ, ◌≤◌, Bool, true, false, cond, not, Option, Some, None}
+use Rattle.std.proofs.Common.{◌≡◌, ◌≢◌, ℕ, ◌≤◌, true, false, cond, not, Option, Some, None}
 use Rattle.std.proofs.Common.{List, [], ◌∷◌, length, take, map, refl, sym, ap, subst, arith}
-use Rattle.std.proofs.lemmas.List.{length-take, take_all}
+use Rattle.std.proofs.lemmas.List.{take_all}
 use Rattle.std.specs.List.{AllByRecursion}
 use Rattle.std.specs.Option.{IfSome}
+use Rattle.std.proofs.lemmas.Bool.{not-false}
+use Rattle.irc_names.specs.Lemmas.PlainFacts.{length-take_bound}
 use Rattle.irc_line.specs.Carried.{IsCarried}
 use Rattle.irc_line.specs.Lines.{earlier_pieces}
 use Rattle.irc_line.specs.Messages.{IsPlainWord}
@@ -37,14 +39,7 @@ use Rattle.irc_commands.specs.OwnLines.{is_from}
 abbrev IsGood : Room → Registered → Type 0
 IsGood room r = IsPendingWithin r.pending × AreSendable room r.steps
 
-not_so : (b : Bool) → not b ≡ false → b ≡ true
-not_so true e = refl
-not_so false e = cc
-
 -- ---- what is made of the words of a USER
-
-front_fits : (n : ℕ) (bytes : List ℕ) → length (take n bytes) ≤ n
-front_fits n bytes = let long = length-take n bytes in omega (arith, long)
 
 name_cleaned : (bytes : List ℕ) → IsUserName (clean_user bytes)
 unfolding clean_user
@@ -60,7 +55,7 @@ some_cleaned (b ∷ bytes) some = λ e. cc
 
 real_fits : (bytes : List ℕ) → length (cut_real bytes) ≤ max_real_name
 unfolding cut_real
-real_fits bytes = front_fits max_real_name bytes
+real_fits bytes = length-take_bound max_real_name bytes
 
 real_carried : (bytes : List ℕ) → IsCarried bytes → IsCarried (cut_real bytes)
 unfolding cut_real
@@ -125,7 +120,7 @@ module _ (room : Room) (place : Place) (server : IsServer place.name) where
       (cond (has_user room nickname) in_use chosen) (λ erroneous. (within, tt))
       (λ fine. by_test (IsGood room) (has_user room nickname) in_use chosen (λ taken. (within, tt))
       (λ free. completing (record pending { nick = Some nickname }) (record {
-        nick = not_so (is_nick nickname) fine;
+        nick = not-false (is_nick nickname) fine;
         name = within.name;
         real_fits = within.real_fits;
         real_carried = within.real_carried;

@@ -1,10 +1,11 @@
 -- What can come of a line, case by case: of a user, and of a connection that is not registered. A
 -- case for each row of the command table.
-use Rattle.std.proofs.Common.{Bool, if◌then◌else◌, map, sym, subst, ◌⊎◌, inl, inr, nat_eq, ◌≡◌, ℕ}
+use Rattle.std.proofs.Common.{if◌then◌else◌, map, sym, subst, ◌⊎◌, inl, inr, nat_eq, ◌≡◌, ℕ}
 use Rattle.std.proofs.Common.{true, false, not, Option, Some, None, List, [], ◌∷◌, refl, cond, drop}
 use Rattle.std.proofs.Common.{length, nat_lt}
 use Rattle.arrayvec.specs.ArrayVec.{ArrayVec}
 use Rattle.std.specs.Cmp.Lexicographic.{pointwise}
+use Rattle.std.proofs.lemmas.Bool.{not-false}
 use Rattle.irc_names.specs.Fold.{key}
 use Rattle.irc_names.specs.Names.{is_nick}
 use Rattle.irc_names.specs.Tables.{row}
@@ -88,10 +89,6 @@ unfolding ping_steps
 pinged place [] = refl
 pinged place (word ∷ more) = refl
 
-not_so : (b : Bool) → not b ≡ false → b ≡ true
-not_so true e = refl
-not_so false e = cc
-
 -- steps without an effect carry nothing
 quiet_steps : (me : User) (room : Room) (params : List (List ℕ)) (steps : List Act)
     → effects_among steps ≡ [] → CarryGiven me room params steps
@@ -125,7 +122,7 @@ nick_taken_so room who message me Q so is nickname =
     (λ taken. by_answers room who message me Q so is _ refl)
     (λ not_taken. by_test S (pointwise nat_eq nickname me.nick) [] (Do (Rename me.nick nickname)
     ∷ []) (λ same. by_answers room who message me Q so is _ refl)
-    (λ other. so.renamed me nickname is (not_so (is_nick nickname) fine) not_taken)))
+    (λ other. so.renamed me nickname is (not-false (is_nick nickname) fine) not_taken)))
 
 by_nick : (room : Room) (who : List ℕ) (message : Parsed) (me : User) (Q : Decided → Type 0)
     → IsSoDecided room who message Q → row room.users (key who) ≡ Some me → (params : List (List ℕ))

@@ -3,6 +3,7 @@ use Rattle.std.proofs.Common.{◌≡◌, ℕ, Bool, true, false, ◌||◌, Optio
 use Rattle.std.proofs.Common.{refl, sym, ◌∙◌, ap, if◌then◌else◌, rules, nat_eq, true≢false}
 use Rattle.std.specs.Cmp.Lexicographic.{pointwise}
 use Rattle.std.specs.Option.{option_and_then, option_map_or, option_map}
+use Rattle.std.proofs.Math.Bool.{or_comm}
 use Rattle.irc_names.specs.Fold.{key, same}
 use Rattle.irc_names.specs.FoldLaws.{same-tells}
 use Rattle.irc_crossing.specs.declared.change.Change.{Change}
@@ -471,17 +472,11 @@ module _ (p : List ℕ) (q : Option (List ℕ)) (n : List ℕ) where
   all_go x (Some y) = go_two x y (is_gone p q n) (is_gone p q x) (is_gone p q y)
       (same x n) (same y n) refl refl refl refl refl
 
-pub or_turned : (a b : Bool) → (a || b) ≡ (b || a)
-or_turned true true = refl
-or_turned true false = refl
-or_turned false true = refl
-or_turned false false = refl
-
 go_agrees : (x : List ℕ) (y : Option (List ℕ)) (p : List ℕ) (q : Option (List ℕ)) (n : List ℕ)
     → nick_behind_both (Go x y) (Go p q) n ≡ nick_behind_both (Go p q) (Go x y) n
 go_agrees x y p q n =
     all_go p q n x y
-    ∙ ap (λ b. if b then None else Some n) (or_turned (is_gone p q n) (is_gone x y n))
+    ∙ ap (λ b. if b then None else Some n) (or_comm (is_gone p q n) (is_gone x y n))
     ∙ sym (all_go x y n p q)
 
 -- ---- among names

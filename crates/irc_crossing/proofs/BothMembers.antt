@@ -3,6 +3,8 @@ use Rattle.std.proofs.Common.{◌≡◌, ℕ, Bool, true, false, ◌||◌, ◌&&
 use Rattle.std.proofs.Common.{sym}
 use Rattle.std.proofs.Common.{◌∙◌, ap, if◌then◌else◌, rules, true≢false}
 use Rattle.std.specs.Option.{option_and_then, option_map}
+use Rattle.std.proofs.Math.Bool.{or_comm}
+use Rattle.std.specs.Cmp.{second_so, first_so}
 use Rattle.irc_names.specs.Fold.{same}
 use Rattle.irc_crossing.specs.declared.change.Change.{Change}
 use Rattle.irc_crossing.specs.declared.change.Change.TheVariants.{Come, Rename, Go, Out, Join, Set}
@@ -13,7 +15,7 @@ use Rattle.irc_crossing.specs.declared.setting.Setting.{Setting}
 use Rattle.irc_crossing.specs.Laws.{AreNames, BothEndsAgree, IsPossible, MayRename}
 use Rattle.irc_crossing.specs.Laws.{member_after, member_behind_both, nick_after, nick_behind_both}
 use Rattle.irc_crossing.proofs.BothEnds.{IsGoer, IsMover, both_nicks_agree, first_same}
-use Rattle.irc_crossing.proofs.BothEnds.{free_of, gone_alike, goer, not_turned, or_turned}
+use Rattle.irc_crossing.proofs.BothEnds.{free_of, gone_alike, goer, not_turned}
 use Rattle.irc_crossing.proofs.BothEnds.{same_self}
 use Rattle.irc_crossing.proofs.BothEnds.{turned}
 
@@ -217,21 +219,13 @@ out_side u c v d ch n false true false us it at so = search (rules, us, it, at)
 out_side u c v d ch n false false true us it at so = search (rules, us, it, at)
 out_side u c v d ch n false false false us it at so = search (rules, us, it, at)
 
-first_true : (a b : Bool) → (a && b) ≡ true → a ≡ true
-first_true true b is = refl
-first_true false b is = is
-
-second_true : (a b : Bool) → (a && b) ≡ true → b ≡ true
-second_true true b is = is
-second_true false b is = absurd (true≢false (sym is))
-
 is_it : (u c v d ch n : List ℕ) → (same u n && same c ch) ≡ true → (same v u && same d c) ≡ true
     → (same v n && same d ch) ≡ true
 is_it u c v d ch n it one =
-    λ i. (first_same v u n (first_true (same v u) (same d c) one)
-    ∙ first_true (same u n) (same c ch) it) i
-    && (first_same d c ch (second_true (same v u) (same d c) one)
-    ∙ second_true (same u n) (same c ch) it) i
+    λ i. (first_same v u n (first_so (same v u) (same d c) one)
+    ∙ first_so (same u n) (same c ch) it) i
+    && (first_same d c ch (second_so (same v u) (same d c) one)
+    ∙ second_so (same u n) (same c ch) it) i
 
 out_out : (u c v d ch n : List ℕ)
     → member_behind_both (Out u c) (Out v d) ch n ≡ member_behind_both (Out v d) (Out u c) ch n
@@ -239,7 +233,7 @@ out_out u c v d ch n =
     let theirs = same u n && same c ch in
     let ours = same v n && same d ch in
     out_side u c v d ch n ours theirs (same v u && same d c) refl refl refl (is_it u c v d ch n)
-    ∙ ap (λ b. if b then None else Some n) (or_turned ours theirs)
+    ∙ ap (λ b. if b then None else Some n) (or_comm ours theirs)
     ∙ sym (out_side v d u c ch n theirs ours (same u v && same c d) refl refl refl
     (is_it v d u c ch n))
 

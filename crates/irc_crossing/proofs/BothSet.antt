@@ -2,12 +2,13 @@
 use Rattle.std.proofs.Common.{◌≡◌, ℕ, Bool, true, false, not, ◌||◌, ◌&&◌, Option, Some, None, List}
 use Rattle.std.proofs.Common.{◌∙◌, ap, refl, sym, nat_eq, arith, if◌then◌else◌}
 use Rattle.std.proofs.Common.{is_some, unwrap_or, true≢false}
-use Rattle.std.proofs.lemmas.Bool.{and_parts, eq-eqb, eqb-true, ltb-true, ltb-false}
+use Rattle.std.proofs.lemmas.Bool.{and_parts, eqb-true, ltb-true, ltb-false, and_left}
 use Rattle.std.specs.declared.cmp.Ordering.{Ordering}
 use Rattle.std.specs.declared.cmp.Ordering.TheVariants.{Less, Equal, Greater}
 use Rattle.std.specs.Cmp.Lexicographic.{nat_list_cmp_total}
 use Rattle.std.specs.Option.{option_and_then}
 use Rattle.std.specs.Ordering.{is_lt, ordering_reverse}
+use Rattle.irc_names.specs.Lemmas.PlainFacts.{nat_eq-turned, implied}
 use Rattle.irc_names.specs.Fold.{same}
 use Rattle.irc_names.specs.Greater.{bytes_cmp}
 use Rattle.irc_names.specs.GreaterLaws.{bytes_cmp-IsAntisymmetric}
@@ -107,15 +108,6 @@ letters_alike one other place secret =
 
 -- ---- one thing, whichever is named first
 
-number_even : (a b : ℕ) → nat_eq a b ≡ nat_eq b a
-number_even a b = by (nat_eq a b) refl (nat_eq b a) refl
-  where
-    by : (p : Bool) → nat_eq a b ≡ p → (q : Bool) → nat_eq b a ≡ q → p ≡ q
-    by true here true there = refl
-    by true here false there = sym (eq-eqb b a (sym (eqb-true a b here))) ∙ there
-    by false here true there = sym here ∙ eq-eqb a b (sym (eqb-true b a there))
-    by false here false there = refl
-
 words_even : (one other : Option (List ℕ)) → are_same_words one other ≡ are_same_words other one
 words_even None None = refl
 words_even None (Some other) = refl
@@ -127,7 +119,7 @@ place_even one other = by (nat_eq (place_byte one) (place_byte other)) refl
   where
     turns : nat_eq (place_byte one) (place_byte other)
         ≡ nat_eq (place_byte other) (place_byte one)
-    turns = number_even (place_byte one) (place_byte other)
+    turns = nat_eq-turned (place_byte one) (place_byte other)
 
     by : (b : Bool) → nat_eq (place_byte one) (place_byte other) ≡ b
         → is_one_place one other ≡ is_one_place other one
@@ -160,10 +152,6 @@ no_part true true c none = absurd (true≢false none)
 no_part true false c none = refl
 no_part false b c none = refl
 
-no_first : (a b : Bool) → a ≡ false → (a && b) ≡ false
-no_first true b none = absurd (true≢false none)
-no_first false b none = refl
-
 others_stay : (theirs ours : Setting) → are_of_one_thing theirs ours ≡ false
     → yields theirs ours ≡ false
 others_stay (Mode channel one) (Mode at other) none =
@@ -172,12 +160,12 @@ others_stay (Mode channel one) (Topic at other) none = refl
 others_stay (Mode channel one) (Spelling other) none = refl
 others_stay (Topic channel one) (Mode at other) none = refl
 others_stay (Topic channel one) (Topic at other) none =
-    no_first (same channel at) (not (is_lt (bytes_cmp other one))) none
+    and_left (same channel at) (not (is_lt (bytes_cmp other one))) none
 others_stay (Topic channel one) (Spelling other) none = refl
 others_stay (Spelling one) (Mode at other) none = refl
 others_stay (Spelling one) (Topic at other) none = refl
 others_stay (Spelling one) (Spelling other) none =
-    no_first (same one other) (not (is_lt (bytes_cmp other one))) none
+    and_left (same one other) (not (is_lt (bytes_cmp other one))) none
 
 pub others_pass : OthersPass
 others_pass theirs ours none =
@@ -371,10 +359,6 @@ module _ (one other : ModeChange) (place : place_of one.letter ≡ place_of othe
       by false first false second =
           letters_alike one.letter other.letter place (first ∙ sym second)
 
-both_set : (p : Bool) (b : Bool) → p ≡ true → (not p || b) ≡ true → b ≡ true
-both_set true b is above = above
-both_set false b is above = absurd (true≢false (sym is))
-
 set_less : (p q b : Bool) → p ≡ true → q ≡ true → (p && (not q || b)) ≡ false → b ≡ false
 set_less true true b first second less = less
 set_less true false b first second less = absurd (true≢false (sym second))
@@ -396,7 +380,7 @@ module _ (one other : ModeChange) (is : is_one_place one other ≡ true) where
   place = places one other parts.0
 
   named : is_by_word one.letter ≡ true → are_same_words one.word other.word ≡ true
-  named by = both_set (is_by_word one.letter) (are_same_words one.word other.word) by parts.1
+  named by = implied (is_by_word one.letter) (are_same_words one.word other.word) parts.1 by
 
   change_never : is_greater_change one other ≡ true → is_greater_change other one ≡ true → ⊥
   change_never here there =
@@ -405,8 +389,8 @@ module _ (one other : ModeChange) (is : is_one_place one other ≡ true) where
       let second = and_parts other.plus
       (not one.plus || is_greater_set other.letter other one) there in
       set_never one other place
-      (both_set other.plus (is_greater_set one.letter one other) second.0 first.1)
-      (both_set one.plus (is_greater_set other.letter other one) first.0 second.1)
+      (implied other.plus (is_greater_set one.letter one other) first.1 second.0)
+      (implied one.plus (is_greater_set other.letter other one) second.1 first.0)
 
   module _ (here : is_greater_change one other ≡ false)
       (there : is_greater_change other one ≡ false) where

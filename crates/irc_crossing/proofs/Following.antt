@@ -1,8 +1,9 @@
 -- Nicknames, by the first change of a log; and two who take one.
 use Rattle.std.proofs.Common.{◌≡◌, ℕ, Bool, true, false, ◌||◌, Option, Some, None, List, ◌∷◌, refl}
 use Rattle.std.proofs.Common.{sym}
-use Rattle.std.proofs.Common.{◌∙◌, ap, if◌then◌else◌, unwrap_or, true≢false}
+use Rattle.std.proofs.Common.{◌∙◌, ap, if◌then◌else◌, unwrap_or}
 use Rattle.std.specs.Option.{option_and_then, option_map_or}
+use Rattle.std.proofs.lemmas.Bool.{or_parts}
 use Rattle.irc_line.specs.Messages.{Parsed}
 use Rattle.irc_names.specs.Fold.{same}
 use Rattle.irc_names.specs.FoldLaws.{same-tells}
@@ -74,23 +75,15 @@ module _ (piece : ℕ) (nick : List ℕ) (log : List Entry) where
             no_word (means_in gone_log (word_at 0 message)) (means_in_none (word_at 0 message))
         by false = no_word (means gone_log) means_none
 
-either_false : (a b : Bool) → (a || b) ≡ false → a ≡ false
-either_false true b is = is
-either_false false b is = refl
-
-second_false : (a b : Bool) → (a || b) ≡ false → b ≡ false
-second_false true b is = absurd (true≢false is)
-second_false false b is = is
-
 pub who_is_gone_is_left_out : WhoIsGoneIsLeftOut
 who_is_gone_is_left_out piece nick log line message read from is other plain peer is_held =
     let gone = gone_log piece nick log in
-    let rest = second_false (is_kick_line message) _ plain in
+    let rest = (or_parts (is_kick_line message) _ plain).1 in
     ap (read_given gone peer is_held) read
     ∙ ap (λ b. option_map_or (λ (modes : ChannelModes). modes_by message peer modes.channel
     (letters_left modes.channel modes.changes gone) message.prefix)
     (if b then modes_in message.params else None) (other_given gone peer is_held message))
-    (second_false (is_topic_line message) _ rest)
+    (or_parts (is_topic_line message) _ rest).1
     ∙ ap (λ b. if b then option_map_or
     (λ (change : Change). nick_given is_held message (through (Some change) gone))
     (change_of message)
@@ -98,8 +91,8 @@ who_is_gone_is_left_out piece nick log line message read from is other plain pee
     ∙ ap (given_by gone peer is_held message) from
     ∙ ap (given_from gone peer is_held message) (no_doer piece nick log is message)
     ∙ ap (λ b. if b then set_if message peer (words_left gone message) else LeftOut)
-    ((λ i. either_false (is_kick_line message) _ plain i
-    || either_false (is_topic_line message) _ rest i))
+    ((λ i. (or_parts (is_kick_line message) _ plain).0 i
+    || (or_parts (is_topic_line message) _ rest).0 i))
 
 -- ---- two who take one nickname
 

@@ -9,6 +9,7 @@ use Rattle.std.proofs.Common.{[], ◌∷◌, ◌++◌, nat_eq, refl, sym, ◌∙
 use Rattle.std.proofs.lemmas.Bool.{eqb-true}
 use Rattle.std.proofs.Math.Seq.{drop-nil, take-nil}
 use Rattle.std.specs.FinMap.{get}
+use Rattle.irc_names.specs.Lemmas.PlainFacts.{nat_eq-turned}
 use Rattle.irc_line.specs.Lines.{begun_behind, completed, lines, nothing_begun}
 use Rattle.irc_line.specs.Messages.{Written, text}
 use Rattle.irc_batch.specs.declared.close_reason.CloseReason.TheVariants as reason
@@ -30,7 +31,6 @@ use Rattle.irc_daemons.proofs.Asked.{AllStill}
 use Rattle.irc_daemons.proofs.Given.{wire_behind}
 use Rattle.irc_daemons.proofs.GoesOn.{GoesOn, asked_goes_on, bytes_go_on, come_at, come_if}
 use Rattle.irc_daemons.proofs.Halves.{one_asked}
-use Rattle.irc_daemons.proofs.Lists.{turned}
 use Rattle.irc_daemons.proofs.OwnClients.{all_replies}
 use Rattle.irc_daemons.proofs.Sent.{server_at}
 use Rattle.irc_daemons.proofs.Written.{bodies, with_ends}
@@ -182,7 +182,7 @@ module _ (view : View) (f y : ℕ) (two : nat_eq y f ≡ false) where
   none_else [] = refl
   none_else (first ∷ parts) =
       ap (λ b. (if b then line_body (text first) ∷ [] else []) ++ bodies y (on_link f parts))
-      (turned f y ∙ two) ∙ none_else parts
+      (nat_eq-turned f y ∙ two) ∙ none_else parts
 
   opened_alone : (called : Option Name) → bodies y (served view (link_up f called)).out ≡ []
   unfolding served

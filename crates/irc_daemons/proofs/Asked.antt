@@ -4,13 +4,15 @@ use Rattle.std.proofs.Common.{◌≡◌, ℕ, suc, Bool, true, false, ◌&&◌, 
 use Rattle.std.proofs.Common.{Option, Some, None, Result, Ok, List, [], ◌∷◌, ◌++◌, append_assoc}
 use Rattle.std.proofs.Common.{append-nil, nat_eq, refl, sym, ◌∙◌, ap, subst, option_map}
 use Rattle.std.proofs.Common.{if◌then◌else◌}
-use Rattle.std.proofs.lemmas.Bool.{eqb-true, or_parts}
+use Rattle.std.proofs.lemmas.Bool.{eqb-true, or_parts, or_right, or_from}
 use Rattle.std.proofs.lemmas.List.Folds.{list_any-append}
 use Rattle.std.specs.FinMap.{FinMap, get, keys}
 use Rattle.std.specs.Ordering.{nat_cmp}
 use Rattle.std.specs.Prelude.{⊤}
 use Rattle.std.specs.List.{AllByRecursion, list_any, list_all}
 use Rattle.std.specs.Option.{option_and_then, option_map_or}
+use Rattle.std.proofs.lemmas.Option.{same_Some}
+use Rattle.irc_names.specs.Lemmas.PlainFacts.{or_first}
 use Rattle.irc_line.specs.Carried.{IsCarried}
 use Rattle.irc_line.specs.Reading.{read_of}
 use Rattle.irc_batch.specs.Batches.{Sent}
@@ -57,7 +59,7 @@ use Rattle.irc_daemons.specs.Daemons.{Daemons}
 use Rattle.irc_daemons.specs.Items.{AreItems, AreSpaced, IsItem, has_item, is_connect, is_gone}
 use Rattle.irc_daemons.specs.Items.{is_line, is_link_line, is_on_link, no_item}
 use Rattle.irc_daemons.proofs.Given.{Went, item_went, went_both, went_nowhere, wire_behind}
-use Rattle.irc_daemons.proofs.Lists.{inside, rest_none}
+use Rattle.irc_daemons.proofs.Lists.{rest_none}
 use Rattle.irc_daemons.proofs.Sent.{server_at}
 use Rattle.irc_daemons.proofs.Told.{heard_first}
 use Rattle.irc_daemons.proofs.Split.{FirstIs, first_of, is_first, is_link_text}
@@ -130,7 +132,7 @@ given_gone net place client home =
 view_there : (o : Option Node) (view : View) → option_map (λ (s : Node). s.server) o
     ≡ Some (Some view) → option_and_then (λ (s : Node). s.server) o ≡ Some view
 view_there None view none = cc none
-view_there (Some node) view some = inside node.server (Some view) some
+view_there (Some node) view some = same_Some node.server (Some view) some
 
 -- a client that its home has is not refused
 pub not_refused : (net : Network) (place client : ℕ) (view : View)
@@ -249,10 +251,6 @@ serves_none numbers view = record {
   still = λ client q seat there. record { was = there; not_closed = refl; not_gone = refl };
 }
 
-both_none : (b c : Bool) → b ≡ false → c ≡ false → (b || c) ≡ false
-both_none true c one other = cc one
-both_none false c one other = other
-
 pub serves_both : (numbers : Numbers) (own mid last : View)
     (events more : List Event) (a b : List Sent)
     → ServesClients numbers own mid events a → ServesClients numbers mid last more b
@@ -268,9 +266,9 @@ serves_both numbers own mid last events more a b one two = record {
       let before = one.still client q seat later.was in record {
         was = before.was;
         not_closed = is_closed_by-append q a b
-            ∙ both_none (is_closed_by q a) (is_closed_by q b) before.not_closed later.not_closed;
+            ∙ or_from (is_closed_by q a) (is_closed_by q b) before.not_closed later.not_closed;
         not_gone =
-            list_any-append (is_left q) events more ∙ both_none (list_any (is_left q) events)
+            list_any-append (is_left q) events more ∙ or_from (list_any (is_left q) events)
             (list_any (is_left q) more) before.not_gone later.not_gone;
       };
 }
@@ -366,10 +364,6 @@ at_then place numbers own last outs net after is went = record {
       ∙ is.homes client q seat;
 }
 
-later_or : (b c : Bool) → c ≡ true → (b || c) ≡ true
-later_or true c is = refl
-later_or false c is = is
-
 module _ (lines_end : ServedLinesEnd) (own_law : ServedGoesToItsOwn) (stay : ClientsStay)
     (alike_law : ServedAlike) {W : Type 0} (names : List Name)
     (daemons : Daemons W) (place : ℕ) (numbers : Numbers) (apart : AreApart numbers)
@@ -404,14 +398,10 @@ module _ (lines_end : ServedLinesEnd) (own_law : ServedGoesToItsOwn) (stay : Cli
               };
         }
           where
-            none_or : (b c : Bool) → c ≡ false → (b || c) ≡ true → b ≡ true
-            none_or true c none is = refl
-            none_or false c none is = cc (sym none ∙ is)
-
             was_before : (q : ℕ)
                 → (is_some (get own.clients q) || client_comes q (read_event_of event)) ≡ true
                 → is_some (get own.clients q) ≡ true
-            was_before q is = none_or (is_some (get own.clients q))
+            was_before q is = or_first (is_some (get own.clients q))
                 (client_comes q (read_event_of event)) (connects_none q) is
 
         pub one_went : (item : Item) → Went place numbers mine.state mine.out net (queues_written
@@ -629,7 +619,7 @@ module _ (lines_end : ServedLinesEnd) (own_law : ServedGoesToItsOwn) (stay : Cli
             subst (λ xs. Goes place numbers own last (event ∷ events) outs xs later net)
             (sym items_are)
             (is_served_item item more is none server_is first_is
-            (still (later_or later (has_item (event ∷ events))
+            (still (or_right later (has_item (event ∷ events))
             (ap (λ b. b || has_item events) (is_item_event item is)))) more_are others)
 
         pub event_goes : (items : List Item) → old.server ≡ Some own → AreItems names daemons place
@@ -656,7 +646,7 @@ module _ (lines_end : ServedLinesEnd) (own_law : ServedGoesToItsOwn) (stay : Cli
     all_go later [] items old new outs own last net asked was is no_item spaced connects carried
         heard opened at still =
         let same : own ≡ last =
-        inside own last (sym was ∙ ap (λ (a : ServerAsked). a.server) (sym asked.1) ∙ is) in
+        same_Some own last (sym was ∙ ap (λ (a : ServerAsked). a.server) (sym asked.1) ∙ is) in
         subst (λ os. Goes place numbers own last [] os [] later net) (sym asked.0)
         (subst (λ v. Goes place numbers own v [] [] [] later net) same (record {
           after = net;

@@ -11,6 +11,9 @@ use Rattle.std.proofs.lemmas.List.Folds.{list_any-append}
 use Rattle.std.specs.FinMap.{get}
 use Rattle.std.specs.List.{flat_map, list_any, slice_get}
 use Rattle.std.specs.Option.{option_and_then}
+use Rattle.std.proofs.Math.Bool.{or-true, or_comm}
+use Rattle.std.proofs.lemmas.Option.{same_Some}
+use Rattle.irc_names.specs.Lemmas.PlainFacts.{or_first, nat_eq-turned}
 use Rattle.irc_line.specs.Laws.{PiecesCompleteTheSame}
 use Rattle.irc_line.specs.Lines.{begun_behind, nothing_begun}
 use Rattle.irc_outbox.specs.Calls.{Call, taken, taken_by, written}
@@ -68,7 +71,7 @@ use Rattle.irc_daemons.proofs.Connected.{next_is, not_refused_here, nothing_said
 use Rattle.irc_daemons.proofs.Connected.{same_bytes, view_of_served, with_one}
 use Rattle.irc_daemons.proofs.Heard.{none_stays}
 use Rattle.irc_daemons.proofs.Given.{Went, item_went, went_both, wire_behind}
-use Rattle.irc_daemons.proofs.Lists.{front_none, inside, set_elsewhere, set_here, turned}
+use Rattle.irc_daemons.proofs.Lists.{front_none, set_elsewhere, set_here}
 use Rattle.irc_daemons.proofs.Open.{IsOpenOf, StreamLinesAreCarried, as_open_of, heard_carried}
 use Rattle.irc_daemons.proofs.Open.{keeps_kind, none_connects, none_gone, open_of, stays_open}
 use Rattle.irc_daemons.proofs.Open.{texts_carried}
@@ -269,7 +272,7 @@ module _ {W : Type 0} (is_after : W → List Call → Type 0) (pieces : PiecesCo
       where
         by : (b : Bool) → IsRealIf
             (begun_at (if b then Some (fresh_connection kind room) else start.connections q))
-        by true begun is = subst IsRealBegun (inside nothing_begun begun is) new_is_real
+        by true begun is = subst IsRealBegun (same_Some nothing_begun begun is) new_is_real
         by false begun is = real_start q begun is
 
     pub real_begin : (q : ℕ) → IsRealIf (begun_at (begin.connections q))
@@ -565,7 +568,7 @@ module _ {W : Type 0} (is_after : W → List Call → Type 0) (pieces : PiecesCo
             servers =
                 subst (λ o. AreServersAlikeIf numbers o node.server) (sym is_last)
                 (subst (λ o. AreServersAlikeIf numbers (Some last) o)
-                (sym (inside node.server (Some went.state) is)) went.alike);
+                (sym (same_Some node.server (Some went.state) is)) went.alike);
           }
 
           other_server : (o : Option (EngineView W)) (was now : Option Node)
@@ -580,7 +583,7 @@ module _ {W : Type 0} (is_after : W → List Call → Type 0) (pieces : PiecesCo
             in_order = is.in_order;
             framers = is.framers;
             servers = subst (λ o. AreServersAlikeIf n e.now.server o)
-                (sym (inside now.server node.server same)) is.servers;
+                (sym (same_Some now.server node.server same)) is.servers;
           }
 
           numbers_there : (x : ℕ) → nat_eq x place ≡ false → numbers_at old x ≡ numbers_at new x
@@ -620,7 +623,7 @@ module _ {W : Type 0} (is_after : W → List Call → Type 0) (pieces : PiecesCo
           -- ---- clients
 
           last_is : (view : View) → end.server ≡ Some view → view ≡ last
-          last_is view is = inside view last (sym is ∙ is_last)
+          last_is view is = same_Some view last (sym is ∙ is_last)
 
           client_end : (number q : ℕ) → numbers.client number ≡ Some q
               → WasThere own q ((part.given ++ first.events) ++ second.events) outs
@@ -667,7 +670,7 @@ module _ {W : Type 0} (is_after : W → List Call → Type 0) (pieces : PiecesCo
               by : (b : Bool) → nat_eq x place ≡ b → AreClientsOpen found.now
               by true one =
                   subst (λ (e : EngineView W). AreClientsOpen e.now)
-                  (inside step.after found (sym after_here ∙ ap (slice_get new.engines)
+                  (same_Some step.after found (sym after_here ∙ ap (slice_get new.engines)
                   (sym (eqb-true x place one)) ∙ at)) clients_end
               by false two = clients_open x found (sym (engine_there x two) ∙ at)
 
@@ -892,14 +895,7 @@ module _ {W : Type 0} (is_after : W → List Call → Type 0) (pieces : PiecesCo
             quiet
             (ap has_item served_is
             ∙ list_any-append (λ event. not (is_link_line event)) first_served second_served
-            ∙ turned_or (has_item first_served) later ∙ is)
-          where
-            turned_or : (b c : Bool) → (b || c) ≡ (c || b)
-            turned_or true true = refl
-            turned_or true false = refl
-            turned_or false true = refl
-            turned_or false false = refl
-
+            ∙ or_comm (has_item first_served) later ∙ is)
         -- ---- servers at the start, between and at the end
 
         server_here : HasServer (numbers_at old place) engine (node_at net.network place)
@@ -987,7 +983,7 @@ module _ {W : Type 0} (is_after : W → List Call → Type 0) (pieces : PiecesCo
 
         once : (x y : ℕ) (name : Name) → slice_get names x ≡ Some name
             → slice_get names y ≡ Some name → x ≡ y
-        once x y name one other = inside x y (sym (placed x name one) ∙ placed y name other)
+        once x y name one other = same_Some x y (sym (placed x name one) ∙ placed y name other)
 
         -- the home of one that has a seat here
         home_here : (homes : List Name) (client : ℕ)
@@ -1439,12 +1435,7 @@ module _ {W : Type 0} (is_after : W → List Call → Type 0) (pieces : PiecesCo
 
             net_still : AllStill net
             net_still =
-                f.still (or_true later)
-              where
-                or_true : (b : Bool) → (b || true) ≡ true
-                or_true true = refl
-                or_true false = refl
-
+                f.still (or-true later)
             first_closed : (y q : ℕ) → new.ends place y ≡ Some q
                 → is_closed_by q (f.asked.first ++ f.asked.more) ≡ false
             first_closed y q is =
@@ -1536,15 +1527,11 @@ module _ {W : Type 0} (is_after : W → List Call → Type 0) (pieces : PiecesCo
                     (ap (λ (v : View). is_some (get v.clients q))
                     (sym (view_of_served own.state conn host own_serves)) ∙ there)).was
 
-                none_or : (b c : Bool) → c ≡ false → (b || c) ≡ true → b ≡ true
-                none_or true c none is = refl
-                none_or false c none is = cc (sym none ∙ is)
-
                 by : (b : Bool) → nat_eq conn q ≡ b
                     → open_kind_at (begin.connections q) ≡ Some kinds.Client
                 by true is = ap open_kind_at (begun_new q is)
                 by false is = ap open_kind_at (begun_old q is) ∙ own_clients q
-                    (none_or (is_some (get own.state.clients q)) (nat_eq conn q) is known)
+                    (or_first (is_some (get own.state.clients q)) (nat_eq conn q) is known)
 
             -- what it has received is nothing
             none_received : bytes_received net.network (suc old.came) ≡ []
@@ -1562,7 +1549,7 @@ module _ {W : Type 0} (is_after : W → List Call → Type 0) (pieces : PiecesCo
                 → is_some (begin.connections q) ≡ true → bytes_received base.network client
                 ≡ old.written client ++ unsent (begin.connections q)
             seat_new client q (is_old seat two) there =
-                let as_before = begun_old q (turned conn q ∙ two refl) in
+                let as_before = begun_old q (nat_eq-turned conn q ∙ two refl) in
                 same_bytes name net.network client
                 ∙ same.are_received.there place client q seat
                 (ap is_some (here q ∙ sym as_before) ∙ there)

@@ -5,10 +5,11 @@ use Rattle.std.proofs.Common.{sym, ◌∙◌, ap, subst, option_map}
 use Rattle.std.proofs.lemmas.Bool.{eq-eqb, eqb-true, or_parts}
 use Rattle.std.proofs.lemmas.Grind.{flat_map-append}
 use Rattle.std.proofs.lemmas.List.Folds.{list_any-append}
-use Rattle.std.proofs.Math.Seq.{drop-nil, take-nil}
+use Rattle.std.proofs.Math.Seq.{drop-nil, take-nil, drop-append_seam, take-append_seam}
 use Rattle.std.specs.FinMap.{get}
 use Rattle.std.specs.List.{AllByRecursion, slice_get}
 use Rattle.std.specs.Option.{option_and_then}
+use Rattle.std.proofs.lemmas.Option.{same_Some}
 use Rattle.arrayvec.specs.ArrayVec.{ArrayVec}
 use Rattle.irc_line.specs.Laws.{PiecesCompleteTheSame}
 use Rattle.irc_line.specs.Lines.{Begun, begun_behind, completed, nothing_begun}
@@ -59,8 +60,7 @@ use Rattle.irc_daemons.proofs.Given.{Went}
 use Rattle.irc_daemons.proofs.Heard.{none_stays}
 use Rattle.irc_daemons.proofs.Listening.{IsToldOf, Listens, its_line, listened, listening}
 use Rattle.irc_daemons.proofs.Listening.{listens_both, no_line}
-use Rattle.irc_daemons.proofs.Lists.{drop_front, inside, rest_none, set_elsewhere, set_here}
-use Rattle.irc_daemons.proofs.Lists.{take_front}
+use Rattle.irc_daemons.proofs.Lists.{rest_none, set_elsewhere, set_here}
 use Rattle.irc_daemons.proofs.Open.{open_of}
 use Rattle.irc_daemons.proofs.ReadParts.{IsReading, part_reads}
 use Rattle.irc_daemons.proofs.Single.{HasServer, HasView, HaveViews, IsOpenLink, has_framer}
@@ -537,10 +537,10 @@ module _ {W : Type 0} (is_after : W → List Call → Type 0) (pieces : PiecesCo
         ∙ same_wire (begun_behind begun_there (take count (bytes ++ behind)))
         (begun_or_none (begun_at (end_at new to from)))
         (drop count (bytes ++ behind)) (new.transit from to ++ unsent (end_at new from to))
-        (ap (begun_behind begun_there) (take_front bytes behind)
+        (ap (begun_behind begun_there) (take-append_seam bytes behind)
         ∙ sym (begun_is conn (still_open from conn reads.is_end))
         ∙ sym (ap (λ o. begun_or_none (begun_at o)) (end_now from conn reads.is_end)))
-        (drop_front bytes behind ∙ ap (λ o. new.transit from to ++ unsent o)
+        (drop-append_seam bytes behind ∙ ap (λ o. new.transit from to ++ unsent o)
         (sym (end_there from to (not_to from conn reads.is_end))))
 
     -- from another server nothing was read
@@ -613,7 +613,7 @@ module _ {W : Type 0} (is_after : W → List Call → Type 0) (pieces : PiecesCo
 
     completed_is : completed_in net from to count ≡ lines_told conn events
     completed_is = ap (lines_by count) old_wire_is
-        ∙ ap (completed begun_there) (take_front bytes behind) ∙ sym lines_are
+        ∙ ap (completed begun_there) (take-append_seam bytes behind) ∙ sym lines_are
 
     net_is : (bytes_come from to count (begun net)).state
         ≡ queues_written came_first.state wires_now
@@ -770,4 +770,4 @@ module _ {W : Type 0} (is_after : W → List Call → Type 0) (pieces : PiecesCo
         (link_followed names kind.0.from place net new
         (bytes_came is_after pieces lines_end own_law stay alike_law names place old new net step
         kind.0 kind.1 links told same
-        (λ x y name one other. inside x y (sym (placed x name one) ∙ placed y name other))))
+        (λ x y name one other. same_Some x y (sym (placed x name one) ∙ placed y name other))))

@@ -4,6 +4,8 @@ use Rattle.std.proofs.Common.{Some, None, List, [], ◌∷◌, ◌++◌, refl, s
 use Rattle.std.proofs.Common.{if◌then◌else◌}
 use Rattle.std.proofs.lemmas.Bool.{eq-eqb, eqb-true}
 use Rattle.std.specs.List.{slice_get}
+use Rattle.std.proofs.Math.Bool.{or_comm}
+use Rattle.irc_names.specs.Lemmas.PlainFacts.{nat_eq-turned}
 use Rattle.irc_forest.specs.Forests.{place_in}
 use Rattle.irc_line.specs.Laws.{PiecesCompleteTheSame}
 use Rattle.irc_outbox.specs.Calls.{Call}
@@ -47,7 +49,6 @@ use Rattle.irc_daemons.proofs.Homes.{asked_keeps}
 use Rattle.irc_daemons.proofs.Lacking.{lacks_nothing}
 use Rattle.irc_daemons.proofs.LackingWords.{AreAllEnds, AreOwn, LacksOne}
 use Rattle.irc_daemons.proofs.Linking.{end_elsewhere, end_told, end_to_others}
-use Rattle.irc_daemons.proofs.Lists.{turned}
 use Rattle.irc_daemons.proofs.Owing.{IsHalf, IsStillFor, all_is_still, named_once, side_is_still}
 use Rattle.irc_daemons.proofs.Owning.{all_ends, are_own}
 use Rattle.irc_daemons.proofs.Permitted.{IsServing, may_cut, may_link, placed_by, serves_there}
@@ -63,14 +64,7 @@ use Rattle.irc_daemons.proofs.Telling.{told_followed}
 -- the ways are the same whichever end is named first
 pub either_first : (a b c d is was : Bool)
     → (if (a && b) || (c && d) then is else was) ≡ (if (c && d) || (a && b) then is else was)
-either_first a b c d is was = ap (λ t. if t then is else was) (swap (a && b) (c && d))
-  where
-    swap : (one other : Bool) → (one || other) ≡ (other || one)
-    swap true true = refl
-    swap true false = refl
-    swap false true = refl
-    swap false false = refl
-
+either_first a b c d is was = ap (λ t. if t then is else was) (or_comm (a && b) (c && d))
 module _ {W : Type 0} (old : Daemons W) (place other : ℕ) (two : nat_eq place other ≡ false) where
   -- what a way is then, by where it is
   pub data WayThen (is : Bool) (x y : ℕ) : Type 0 where
@@ -211,7 +205,7 @@ module _ {W : Type 0} (is_after : W → List Call → Type 0) (pieces : PiecesCo
             ends_new x y = ap (λ (f : ℕ → ℕ → Option ℕ). f x y) telling.step.same_ends
 
             apart : nat_eq other place ≡ false
-            apart = turned other place ∙ two
+            apart = nat_eq-turned other place ∙ two
 
             told_set : (x y : ℕ) → (x ≡ other → nat_eq y place ≡ false)
                 → way_set old place other (is_way_by mine) x y
@@ -351,7 +345,7 @@ module _ {W : Type 0} (is_after : W → List Call → Type 0) (pieces : PiecesCo
                   (own_then net.network base.network is.servers own_here)
                   (ends_then net.network base.network is.servers ends_here) in
                   half_told (is_up None) (is_up (Some far)) (link near far) telling
-                  (turned place other ∙ ok.apart) refl base
+                  (nat_eq-turned place other ∙ ok.apart) refl base
                   (both_asked (link near far) other place on off base) is.servers is.names is.homes
                   is.received
                   (λ x y.

@@ -7,6 +7,7 @@ use Rattle.std.proofs.lemmas.Bool.{eqb-true, or_parts}
 use Rattle.std.specs.FinMap.{get}
 use Rattle.std.specs.List.{slice_get}
 use Rattle.std.specs.Option.{option_and_then, option_map_or}
+use Rattle.std.proofs.lemmas.Option.{slice_get-map}
 use Rattle.irc_batch.specs.Batches.{Sent}
 use Rattle.irc_world.specs.Stepping.{Item}
 use Rattle.irc_stage.specs.View.{View}
@@ -30,7 +31,6 @@ use Rattle.irc_daemons.specs.Alike.{client_bytes, happens_at, renumbered}
 use Rattle.irc_daemons.specs.Receiving.{bytes_received, has_come}
 use Rattle.irc_daemons.proofs.Heard.{reply_ends}
 use Rattle.irc_daemons.proofs.Homes.{KeepsHomes, asked_keeps, keeps_both}
-use Rattle.irc_daemons.proofs.Lists.{get_map}
 use Rattle.irc_daemons.proofs.Single.{no_way_waits}
 use Rattle.irc_daemons.proofs.Received.{Gets, asked_gets}
 use Rattle.irc_daemons.proofs.Sent.{Replies, asked_replies, server_at}
@@ -40,7 +40,8 @@ use Rattle.irc_daemons.proofs.Written.{bodies, bodies_are, written_all}
 -- ---- what was emptied
 
 pub emptied_server : (net : Network) (x : ℕ) → server_at (emptied net) x ≡ server_at net x
-emptied_server net x = ap (option_map (λ (s : Node). s.server)) (get_map emptied_node net.nodes x)
+emptied_server net x =
+    ap (option_map (λ (s : Node). s.server)) (slice_get-map emptied_node net.nodes x)
     ∙ by (slice_get net.nodes x)
   where
     by : (o : Option Node) → option_map (λ (s : Node). s.server) (option_map emptied_node o)

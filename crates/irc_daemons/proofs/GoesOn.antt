@@ -8,6 +8,7 @@ use Rattle.std.proofs.lemmas.Grind.{flat_map-append}
 use Rattle.std.proofs.Math.Seq.{drop-nil, take-nil}
 use Rattle.std.specs.FinMap.{get}
 use Rattle.std.specs.Option.{option_and_then, option_map_or}
+use Rattle.std.proofs.Math.Bool.{and-false}
 use Rattle.irc_line.specs.Lines.{begun_behind, nothing_begun}
 use Rattle.irc_line.specs.Reading.{read_of}
 use Rattle.irc_server.specs.Served.{ReadEvent, link_says}
@@ -213,9 +214,6 @@ no_byte_comes count = λ i. record { begun = begun_is i; bytes = sym (drop-nil c
     begun_is = new_is_real ∙ ap (begun_behind nothing_begun) (sym (take-nil count))
 
 module _ (from to count : ℕ) (net : ByteNetwork) where
-  none_and : (b : Bool) → (b && false) ≡ false
-  none_and true = refl
-  none_and false = refl
 
   -- on the way on which they come, and on no other
   pub come_at : (x y : ℕ) → wire_at (wires_come net from to count) x y
@@ -240,7 +238,7 @@ module _ (from to count : ℕ) (net : ByteNetwork) where
           is ∙ ap (λ b. come_if count (b && nat_eq y to) (wire_at net.wires x y)) (sym two)
       by (other_to two is) =
           is ∙ ap (λ b. come_if count b (wire_at net.wires x y))
-          (sym (none_and (nat_eq x from)) ∙ ap (λ b. nat_eq x from && b) (sym two))
+          (sym (and-false (nat_eq x from)) ∙ ap (λ b. nat_eq x from && b) (sym two))
 
   come_is : (bytes_come from to count (begun net)).state
       ≡ queues_written

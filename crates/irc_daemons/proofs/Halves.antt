@@ -6,6 +6,7 @@ use Rattle.std.proofs.Common.{option_map}
 use Rattle.std.proofs.lemmas.Bool.{eq-eqb, eqb-true}
 use Rattle.std.specs.FinMap.{get}
 use Rattle.std.specs.Option.{option_and_then, option_map_or}
+use Rattle.irc_names.specs.Lemmas.PlainFacts.{nat_eq-turned}
 use Rattle.irc_stage.specs.View.{View}
 use Rattle.irc_server.specs.Served.{ReadEvent}
 use Rattle.irc_server.specs.Own.{ServedGoesToItsOwn}
@@ -24,7 +25,6 @@ use Rattle.irc_daemons.specs.Receiving.{bytes_received, has_come}
 use Rattle.irc_daemons.proofs.Given.{bytes_of_nodes, come_of_nodes, emptied_server, wire_behind}
 use Rattle.irc_daemons.proofs.Homes.{KeepsHomes, asked_keeps}
 use Rattle.irc_daemons.proofs.LackingWords.{AreAllEnds, AreOwn, LacksOne}
-use Rattle.irc_daemons.proofs.Lists.{turned}
 use Rattle.irc_daemons.proofs.Single.{no_way_waits}
 use Rattle.irc_daemons.proofs.Received.{Gets, asked_gets}
 use Rattle.irc_daemons.proofs.Silence.{nobody_gets}
@@ -185,7 +185,8 @@ module _ (n f : ℕ) (on off : ReadEvent) (vn vf : View) (start mid last turn : 
         → waiting_at last f y ≡ waiting_at turn f y
     same_far y true way =
         second.waits_here y (first.ways f y ∙ way)
-        ∙ ap (λ ls. ls ++ bodies y (reply vf off).out) (first.waits_there f y (turned f n ∙ two))
+        ∙ ap (λ ls. ls ++ bodies y (reply vf off).out)
+            (first.waits_there f y (nat_eq-turned f n ∙ two))
         ∙ sym (other.waits_here y way)
     same_far y false none =
         no_way_waits last f y (second.ways f y ∙ first.ways f y ∙ none)
@@ -279,7 +280,8 @@ module _ (own_law : ServedGoesToItsOwn) (item : Item) (n f : ℕ) (on off : Read
     far_asked = is_asked f off vf (begun base.network) far_there
 
     far_after : IsAsked f off vf near_progress.state last_progress.state
-    far_after = is_asked f off vf near_progress (near_asked.others f (turned f n ∙ two) ∙ far_there)
+    far_after =
+        is_asked f off vf near_progress (near_asked.others f (nat_eq-turned f n ∙ two) ∙ far_there)
 
     near_out : IsOut near_progress.state base.wires (one_asked item n on base)
     near_out = is_out item near_progress base.wires tidy.lean

@@ -6,6 +6,7 @@ use Rattle.std.proofs.lemmas.Bool.{or_parts}
 use Rattle.std.proofs.lemmas.List.Folds.{list_any-append}
 use Rattle.std.specs.FinMap.{get}
 use Rattle.std.specs.List.{slice_get}
+use Rattle.std.proofs.lemmas.Option.{same_Some}
 use Rattle.arrayvec.specs.ArrayVec.{ArrayVec}
 use Rattle.irc_line.specs.Laws.{PiecesCompleteTheSame}
 use Rattle.irc_outbox.specs.Calls.{Call, taken}
@@ -33,7 +34,6 @@ use Rattle.irc_daemons.proofs.Assembly.{incoming_stays, mid_moment, newcomer, pa
 use Rattle.irc_daemons.proofs.Assembly.{real_mid, second, start, taken_is}
 use Rattle.irc_daemons.proofs.Given.{Went, went_nowhere}
 use Rattle.irc_daemons.proofs.Heard.{none_stays}
-use Rattle.irc_daemons.proofs.Lists.{inside}
 use Rattle.irc_daemons.proofs.Open.{open_of}
 use Rattle.irc_daemons.proofs.Single.{HasServer, HasView, HaveViews, has_server, has_view}
 use Rattle.irc_daemons.proofs.Single.{have_views}
@@ -240,7 +240,7 @@ module _ {W : Type 0} (is_after : W → List Call → Type 0) (pieces : PiecesCo
     outs_none = ap (λ os. os ++ ran_on.outs) asked_none.0 ∙ asked_second.0
 
     last_is : own.state ≡ last.state
-    last_is = inside own.state last.state
+    last_is = same_Some own.state last.state
         (sym own.is ∙ ap (λ (a : ServerAsked). a.server) (sym asked_none.1) ∙ mid_server)
 
     events_none : (given ++ ran.events) ++ ran_on.events ≡ []

@@ -14,6 +14,7 @@ use Rattle.std.proofs.lemmas.Bool.{eq-eqb, eqb-true}
 use Rattle.std.proofs.lemmas.List.{drop-append-le, take-append-le}
 use Rattle.std.specs.FinMap.{get}
 use Rattle.std.specs.Option.{option_and_then}
+use Rattle.irc_names.specs.Lemmas.PlainFacts.{nat_eq-turned}
 use Rattle.irc_batch.specs.Batches.{Sent}
 use Rattle.irc_forest.specs.Forests.{place_in}
 use Rattle.irc_line.specs.Lines.{begun_behind, completed}
@@ -35,7 +36,6 @@ use Rattle.irc_daemons.specs.Receiving.{bytes_received, has_come}
 use Rattle.irc_daemons.proofs.Given.{wire_behind}
 use Rattle.irc_daemons.proofs.GoesOn.{GoesOn, asked_goes_on, bytes_go_on, come_at, come_if}
 use Rattle.irc_daemons.proofs.LackingWords.{AreAllEnds, AreOwn, LacksOne}
-use Rattle.irc_daemons.proofs.Lists.{turned}
 use Rattle.irc_daemons.proofs.OwnClients.{all_replies, all_to_own}
 use Rattle.irc_daemons.proofs.Silence.{nobody_gets}
 use Rattle.irc_daemons.proofs.SameAs.{IsSameAs, none_received}
@@ -156,7 +156,7 @@ module _ (place to : ℕ) (read_event : ReadEvent) (less more : ByteNetwork)
     out = (reply lacks.state read_event).out
 
     apart : nat_eq place to ≡ false
-    apart = turned place to ∙ away
+    apart = nat_eq-turned place to ∙ away
 
     servers_then : (x : ℕ) → nat_eq x place ≡ false → (b : Bool) → nat_eq x to ≡ b
         → server_at more_then.network x ≡ server_at less_then.network x

@@ -4,6 +4,8 @@ use Rattle.std.proofs.Common.{None, refl, sym, ◌∙◌, ap, option_map, if◌t
 use Rattle.std.proofs.lemmas.Bool.{eq-eqb, eqb-true}
 use Rattle.std.specs.FinMap.{get}
 use Rattle.std.specs.Option.{option_and_then}
+use Rattle.std.proofs.lemmas.Option.{same_Some}
+use Rattle.irc_names.specs.Lemmas.PlainFacts.{none_if_not_some}
 use Rattle.irc_relay.specs.Links.{Name}
 use Rattle.irc_routes.specs.declared.server_row.ServerRow.{ServerRow}
 use Rattle.irc_routes.specs.Known.{row_of}
@@ -14,7 +16,6 @@ use Rattle.irc_daemons.specs.Daemons.{AreJoined, AreLinksOpen, Daemons}
 use Rattle.irc_daemons.specs.Steps.{unless_taken}
 use Rattle.irc_daemons.specs.Tellings.{LinkTidings, end_by, end_set, is_lost, is_up, is_way_by}
 use Rattle.irc_daemons.specs.Tellings.{seats_by, way_set}
-use Rattle.irc_daemons.proofs.Lists.{inside}
 
 -- ---- ends and ways
 
@@ -94,7 +95,7 @@ module _ {W : Type 0} (old : Daemons W) (place other : ℕ) where
       kept seat at true same none = cc none
       kept seat at false two found = record {
         was = at ∙ found;
-        free = λ one up. ap (λ n. nat_eq n conn) (sym (inside seat q found)) ∙ two;
+        free = λ one up. ap (λ n. nat_eq n conn) (sym (same_Some seat q found)) ∙ two;
       }
 
       by : (b : Bool) (o : Option ℕ) → nat_eq x place ≡ b → old.seats x client ≡ o → (if b
@@ -155,7 +156,7 @@ module _ {W : Type 0} (old : Daemons W) (place other conn : ℕ) (two : nat_eq p
 
       -- only a link that is made has an end here
       made : (t : LinkTidings) (q : ℕ) → end_by t conn ≡ Some q → (is_way_by t ≡ true) × (q ≡ conn)
-      made (is_up called) q is = (refl, sym (inside conn q is))
+      made (is_up called) q is = (refl, sym (same_Some conn q is))
       made is_lost q is = cc is
 
       not_itself_then : (x : ℕ) (o : Option ℕ) → new.ends x x ≡ o → o ≡ None
@@ -184,10 +185,6 @@ module _ {W : Type 0} (old : Daemons W) (place other conn : ℕ) (two : nat_eq p
           let it = made tidings q end in cc (sym (seat.free here it.0) ∙ eq-eqb q conn it.1)
 
 -- ---- alike
-
-is_nothing : {A : Type 0} (o : Option A) → is_some o ≡ false → o ≡ None
-is_nothing None none = refl
-is_nothing (Some x) none = cc none
 
 -- a row for each, and not the other link
 rows_by : (before numbers : Numbers) (mine theirs : Option ServerRow)
@@ -229,7 +226,7 @@ module _ {W : Type 0} (old : Daemons W) (place other conn : ℕ) (own theirs : V
       up_ends y true same =
           ap (λ n. option_and_then (get own.ends) (old.ends place n)) (eqb-true y other same)
           ∙ ap (option_and_then (get own.ends)) was
-          ∙ sym (is_nothing (get own.ends conn) no_end)
+          ∙ sym (none_if_not_some (get own.ends conn) no_end)
           ∙ ap (option_and_then (get own.ends)) (sym (end_told old place other (Some conn)))
           ∙ ap (λ n. option_and_then (get own.ends) (end_set old place other (Some conn) place n))
           (sym (eqb-true y other same))
@@ -249,7 +246,7 @@ module _ {W : Type 0} (old : Daemons W) (place other conn : ℕ) (own theirs : V
           by : (b : Bool) → nat_eq seat conn ≡ b → get own.clients seat
               ≡ option_and_then (get own.clients) (if b then None else Some seat)
           by true same = ap (get own.clients) (eqb-true seat conn same)
-              ∙ is_nothing (get own.clients conn) no_client
+              ∙ none_if_not_some (get own.clients conn) no_client
           by false two = refl
 
       up_among : (q number : ℕ) → is_some (get own.clients q) ≡ true → old.seats place number
@@ -303,7 +300,7 @@ module _ {W : Type 0} (old : Daemons W) (place other conn : ℕ) (own theirs : V
         by : (b : Bool) → nat_eq y other ≡ b → b ≡ false
         by true same =
             let it : q ≡ conn =
-            inside q conn (sym is ∙ ap (old.ends place) (eqb-true y other same) ∙ was) in
+            same_Some q conn (sym is ∙ ap (old.ends place) (eqb-true y other same) ∙ was) in
             cc (sym (ap (λ n. is_some (get own.ends n)) it ∙ no_end) ∙ there)
         by false two = refl
 
@@ -313,7 +310,7 @@ module _ {W : Type 0} (old : Daemons W) (place other conn : ℕ) (own theirs : V
     lost_ends y true same =
         ap (λ n. option_and_then (get own.ends) (old.ends place n)) (eqb-true y other same)
         ∙ ap (option_and_then (get own.ends)) was
-        ∙ is_nothing (get own.ends conn) no_end
+        ∙ none_if_not_some (get own.ends conn) no_end
         ∙ ap (option_and_then (get own.ends)) (sym (end_told old place other None))
         ∙ ap (λ n. option_and_then (get own.ends) (end_set old place other None place n))
         (sym (eqb-true y other same))

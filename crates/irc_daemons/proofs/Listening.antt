@@ -7,6 +7,8 @@ use Rattle.std.proofs.lemmas.Bool.{eq-eqb, eqb-true, or_parts}
 use Rattle.std.specs.FinMap.{get}
 use Rattle.std.specs.List.{AllByRecursion}
 use Rattle.std.specs.Option.{option_and_then, option_map_or}
+use Rattle.std.proofs.lemmas.Option.{same_Some}
+use Rattle.irc_names.specs.Lemmas.PlainFacts.{or_first}
 use Rattle.arrayvec.specs.ArrayVec.{ArrayVec}
 use Rattle.irc_line.specs.Reading.{read_of}
 use Rattle.irc_batch.specs.Batches.{Sent}
@@ -40,7 +42,6 @@ use Rattle.irc_daemons.proofs.Given.{Went, bytes_of_nodes, come_of_nodes, emptie
 use Rattle.irc_daemons.proofs.Given.{same_answers, wire_behind}
 use Rattle.irc_daemons.proofs.Heard.{answers_both, reply_ends}
 use Rattle.irc_daemons.proofs.Homes.{KeepsHomes, asked_keeps, keeps_both, keeps_same}
-use Rattle.irc_daemons.proofs.Lists.{inside}
 use Rattle.irc_daemons.proofs.Single.{no_way_waits}
 use Rattle.irc_daemons.proofs.Received.{Gets, heard_gets}
 use Rattle.irc_daemons.proofs.Sent.{Lines, Replies, heard_replies, server_at}
@@ -125,10 +126,6 @@ listens_both to numbers own between last events more a b old mid new one two = r
   clients = serves_both numbers own between last events more a b one.clients two.clients;
 }
 
-either : (b c : Bool) → c ≡ false → (b || c) ≡ true → b ≡ true
-either true c none is = refl
-either false c none is = cc (sym none ∙ is)
-
 -- a line of the link, or no line at all
 pub data IsToldOf (conn : ℕ) (event : Event) : Type 0 where
   its_line : (line : ArrayVec ℕ) → event ≡ LinkLine conn line → IsToldOf conn event
@@ -179,7 +176,7 @@ module _ (lines_end : ServedLinesEnd) (own_law : ServedGoesToItsOwn) (stay : Cli
         still = λ client q seat is.
             let known = still_there own_law own it alike.ends_count stay q refl
             (no_client_end numbers own other apart alike client q seat) is in record {
-              was = either (is_some (get own.clients q)) (client_comes q it) refl known.was;
+              was = or_first (is_some (get own.clients q)) (client_comes q it) refl known.was;
               not_closed = known.not_closed;
               not_gone = refl;
             };
@@ -236,7 +233,7 @@ module _ (lines_end : ServedLinesEnd) (own_law : ServedGoesToItsOwn) (stay : Cli
     hears_none : Listening []
     hears_none old new outs own last other progress asked was is no_item told alike at =
         let same : own ≡ last =
-        inside own last (sym was ∙ ap (λ (a : ServerAsked). a.server) (sym asked.1) ∙ is) in
+        same_Some own last (sym was ∙ ap (λ (a : ServerAsked). a.server) (sym asked.1) ∙ is) in
         subst (λ os. Listens to numbers own last [] os progress.state progress.state) (sym asked.0)
         (subst (λ v. Listens to numbers own v [] [] progress.state progress.state) same
         (listens_none to numbers own other progress.state alike at))

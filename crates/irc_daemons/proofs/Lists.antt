@@ -1,25 +1,8 @@
 -- Lists at a place, and lists that are empty.
-use Rattle.std.proofs.Common.{◌≡◌, ℕ, zero, suc, Bool, true, false, nat_eq, Some, List, [], ◌∷◌}
-use Rattle.std.proofs.Common.{◌++◌, length, take, drop, refl, sym, ◌∙◌, ap, map, option_map}
-use Rattle.std.proofs.Common.{unwrap_or}
-use Rattle.std.proofs.lemmas.Bool.{eq-eqb, eqb-true}
+use Rattle.std.proofs.Common.{◌≡◌, ℕ, zero, suc, false, nat_eq, Some, List, [], ◌∷◌}
+use Rattle.std.proofs.Common.{◌++◌, refl}
 use Rattle.std.specs.List.{slice_get, slice_set, AllByRecursion}
-
-pub turned : (a b : ℕ) → nat_eq a b ≡ nat_eq b a
-turned a b = by (nat_eq a b) (nat_eq b a) refl refl
-  where
-    by : (x y : Bool) → nat_eq a b ≡ x → nat_eq b a ≡ y → x ≡ y
-    by true true one other = refl
-    by true false one other = sym (eq-eqb b a (sym (eqb-true a b one))) ∙ other
-    by false true one other = sym one ∙ eq-eqb a b (sym (eqb-true b a other))
-    by false false one other = refl
-
-pub one_before : (x y : ℕ) → nat_eq (suc x) (suc y) ≡ false → nat_eq x y ≡ false
-one_before x y two = by (nat_eq x y) refl
-  where
-    by : (b : Bool) → nat_eq x y ≡ b → b ≡ false
-    by false is = refl
-    by true is = cc (sym (eq-eqb (suc x) (suc y) (ap suc (eqb-true x y is))) ∙ two)
+use Rattle.irc_wires.specs.Lemmas.PutWires.{one_before}
 
 pub set_here : {A : Type 0} (xs : List A) (n : ℕ) (old new : A) → slice_get xs n ≡ Some old
     → slice_get (slice_set xs n new) n ≡ Some new
@@ -34,12 +17,6 @@ set_elsewhere (first ∷ xs) zero zero new two = cc two
 set_elsewhere (first ∷ xs) zero (suc x) new two = refl
 set_elsewhere (first ∷ xs) (suc n) zero new two = refl
 set_elsewhere (first ∷ xs) (suc n) (suc x) new two = set_elsewhere xs n x new (one_before x n two)
-
-pub get_map : {A B : Type 0} (f : A → B) (xs : List A) (n : ℕ)
-    → slice_get (map f xs) n ≡ option_map f (slice_get xs n)
-get_map f [] n = refl
-get_map f (x ∷ xs) zero = refl
-get_map f (x ∷ xs) (suc n) = get_map f xs n
 
 pub front_none : {A : Type 0} (xs ys : List A) → xs ++ ys ≡ [] → xs ≡ []
 front_none [] ys none = refl
@@ -58,15 +35,3 @@ pub all_rest : {A : Type 0} (P : A → Type 0) (xs ys : List A) → AllByRecursi
     → AllByRecursion P ys
 all_rest P [] ys all = all
 all_rest P (x ∷ xs) ys all = all_rest P xs ys all.1
-
--- as many as the front has
-pub take_front : (xs ys : List ℕ) → take (length xs) (xs ++ ys) ≡ xs
-take_front [] ys = refl
-take_front (x ∷ xs) ys = ap (λ zs. x ∷ zs) (take_front xs ys)
-
-pub drop_front : (xs ys : List ℕ) → drop (length xs) (xs ++ ys) ≡ ys
-drop_front [] ys = refl
-drop_front (x ∷ xs) ys = drop_front xs ys
-
-pub inside : {A : Type 0} (x y : A) → Some x ≡ Some y → x ≡ y
-inside x y is = ap (λ o. unwrap_or o x) is

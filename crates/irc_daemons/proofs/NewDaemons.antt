@@ -6,6 +6,7 @@ use Rattle.std.specs.FinMap.{empty, get, get-empty}
 use Rattle.std.specs.List.{AllByRecursion, filter_map, slice_get}
 use Rattle.std.specs.Option.{option_and_then}
 use Rattle.std.specs.Ordering.{nat_cmp}
+use Rattle.std.proofs.lemmas.Option.{slice_get-map}
 use Rattle.irc_names.specs.Tables.{fold_cmp}
 use Rattle.irc_routes.specs.declared.server_row.ServerRow.{ServerRow}
 use Rattle.irc_routes.specs.Known.{row_of}
@@ -33,7 +34,6 @@ use Rattle.irc_daemons.specs.Daemons.{unsent, wire_between}
 use Rattle.irc_daemons.specs.NewDaemons.{AreNew, IsNewIf, IsNewOf, names_in, settings_in}
 use Rattle.irc_daemons.specs.Receiving.{bytes_received}
 use Rattle.irc_daemons.proofs.Going.{IsGoing}
-use Rattle.irc_daemons.proofs.Lists.{get_map}
 use Rattle.irc_daemons.proofs.Single.{has_server, have_views, same_wire}
 use Rattle.irc_daemons.proofs.Told.{begun_or_none}
 
@@ -106,7 +106,7 @@ no_wire (suc servers) (suc from) to = no_wire servers from to
 no_way : (configs : List Config) (from to : ℕ) → has_way (made_of configs) from to ≡ false
 no_way configs from to =
     ap (λ o. is_some (option_and_then (λ (node : Node). get node.queues to) o))
-    (get_map new_node configs from) ∙ by (slice_get configs from)
+    (slice_get-map new_node configs from) ∙ by (slice_get configs from)
   where
     by : (o : Option Config) → is_some
         (option_and_then (λ (node : Node). get node.queues to) (option_map new_node o)) ≡ false
@@ -149,7 +149,7 @@ module _ {W : Type 0} (whole : NewIsWhole) (configs : List Config) (daemons : Da
   new_as_bytes = record {
     servers = λ place.
         subst (IsServerIf (numbers_at daemons place) (slice_get daemons.engines place))
-        (sym (get_map new_node new.ordered place))
+        (sym (slice_get-map new_node new.ordered place))
         (new_servers (numbers_at daemons place) (λ y. new.no_link place y)
         (λ client. new.no_seat place client) (slice_get new.ordered place)
         (slice_get daemons.engines place) (new.engines place));

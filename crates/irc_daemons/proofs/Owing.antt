@@ -5,6 +5,7 @@ use Rattle.std.proofs.Common.{Option, Some, List, [], ◌++◌, append-nil, leng
 use Rattle.std.proofs.Common.{subst}
 use Rattle.std.proofs.lemmas.Bool.{eq-eqb, eqb-true}
 use Rattle.std.specs.List.{slice_get}
+use Rattle.std.proofs.lemmas.Option.{same_Some}
 use Rattle.irc_line.specs.Laws.{PiecesCompleteTheSame}
 use Rattle.irc_outbox.specs.Calls.{Call, taken}
 use Rattle.irc_forest.specs.Forests.{place_in}
@@ -35,7 +36,7 @@ use Rattle.irc_daemons.proofs.Going.{IsGoing, goes_on}
 use Rattle.irc_daemons.proofs.Idle.{idle_followed}
 use Rattle.irc_daemons.proofs.Lacking.{lacks_still}
 use Rattle.irc_daemons.proofs.LackingWords.{LacksOne}
-use Rattle.irc_daemons.proofs.Lists.{front_none, inside}
+use Rattle.irc_daemons.proofs.Lists.{front_none}
 use Rattle.irc_daemons.proofs.Owning.{all_ends, are_own}
 use Rattle.irc_daemons.proofs.Aside.{IsAside, aside_still, nothing_comes}
 use Rattle.irc_daemons.proofs.Single.{HasServer, has_server}
@@ -73,7 +74,7 @@ pub record IsHalf {W : Type 0} (settings : List Setting) (names : List Name) (it
 pub named_once : (names : List Name) (net : ByteNetwork) → ArePlaced names net → (x y : ℕ)
     (name : Name) → slice_get names x ≡ Some name → slice_get names y ≡ Some name → x ≡ y
 named_once names net placed x y name one other =
-    inside x y (sym (placed x name one) ∙ placed y name other)
+    same_Some x y (sym (placed x name one) ∙ placed y name other)
 
 -- no item is among the events of a step that has none
 pub none_among : {W : Type 0} (names : List Name) (daemons : Daemons W) (place : ℕ)

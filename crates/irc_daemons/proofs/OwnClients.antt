@@ -1,9 +1,10 @@
 -- What a server puts out comes to its own clients alone, whatever happens; and so does all that it
 -- puts out as it hears lines of a link, one after another.
-use Rattle.std.proofs.Common.{◌≡◌, ℕ, Bool, true, false, is_some, List, [], ◌∷◌, ◌||◌, ◌++◌, refl}
+use Rattle.std.proofs.Common.{◌≡◌, ℕ, Bool, true, false, is_some, List, [], ◌∷◌, ◌++◌, refl}
 use Rattle.std.proofs.Common.{sym, ◌∙◌, ap, if◌then◌else◌}
 use Rattle.std.proofs.lemmas.Grind.{flat_map-append}
 use Rattle.std.specs.FinMap.{get}
+use Rattle.irc_names.specs.Lemmas.PlainFacts.{or_first}
 use Rattle.irc_line.specs.Reading.{read_of}
 use Rattle.irc_stage.specs.Ways.{AreEnds}
 use Rattle.irc_server.specs.Served.{ReadEvent, link_says, served}
@@ -20,10 +21,6 @@ abbrev replied : Bool → View → ReadEvent → Served
 replied b view read_event =
     if b then record { state = (served view read_event).state; out = (served view read_event).out }
     else record { state = view; out = [] }
-
-either : (b c : Bool) → c ≡ false → (b || c) ≡ true → b ≡ true
-either true c none is = refl
-either false c none is = cc (sym none ∙ is)
 
 -- ---- upon one event, as it is read
 
@@ -71,7 +68,7 @@ nobody_comes stay from view line client none = by (serves_read_event view it) re
         → is_some (get (served view it).state.clients client) ≡ b → b ≡ false
     there true serves is =
         let known = stay view it client serves is in
-        cc (sym none ∙ either (is_some (get view.clients client))
+        cc (sym none ∙ or_first (is_some (get view.clients client))
         (client_comes client it) refl known.was)
     there false serves is = refl
 

@@ -5,6 +5,7 @@ use Rattle.std.proofs.Common.{subst, option_map}
 use Rattle.std.specs.FinMap.{get}
 use Rattle.std.specs.List.{slice_get}
 use Rattle.std.specs.Option.{option_and_then}
+use Rattle.std.proofs.lemmas.Option.{same_Some}
 use Rattle.irc_relay.specs.Links.{Name}
 use Rattle.irc_stage.specs.declared.clients.Client.{Client}
 use Rattle.irc_stage.specs.View.{View}
@@ -17,7 +18,6 @@ use Rattle.irc_daemons.specs.AsBytes.{IsServerIf, numbers_at}
 use Rattle.irc_daemons.specs.AsNetwork.{IsAsNetwork}
 use Rattle.irc_daemons.specs.Daemons.{Daemons}
 use Rattle.irc_daemons.proofs.LackingWords.{AreAllEnds, AreOwn}
-use Rattle.irc_daemons.proofs.Lists.{inside}
 use Rattle.irc_daemons.proofs.Sent.{server_at}
 use Rattle.irc_daemons.proofs.Silence.{other_ends}
 
@@ -39,7 +39,7 @@ alike_if numbers None (Some node) view is some = absurd is
 alike_if numbers (Some engine) (Some node) view is some =
     alike_of numbers engine.now.server view
     (subst (λ o. AreServersAlikeIf numbers engine.now.server o)
-    (inside node.server (Some view) some) is.servers)
+    (same_Some node.server (Some view) some) is.servers)
 
 module _ {W : Type 0} (names : List Name) (daemons : Daemons W) (net : ByteNetwork)
     (same : IsAsNetwork names daemons net) where

@@ -2,10 +2,11 @@
 use Rattle.std.proofs.Common.{◌≡◌, ℕ, zero, suc, Bool, true, false, not, ◌&&◌, ◌||◌, ◌⊎◌, inl, inr}
 use Rattle.std.proofs.Common.{is_some, Some, None, List, [], ◌∷◌, nat_eq, refl, sym, ◌∙◌, ap, subst}
 use Rattle.std.proofs.Common.{option_map, if◌then◌else◌}
-use Rattle.std.proofs.lemmas.Bool.{and_parts, eqb-true}
+use Rattle.std.proofs.lemmas.Bool.{and_parts, eqb-true, or_cases}
 use Rattle.std.specs.FinMap.{get}
 use Rattle.std.specs.List.{slice_get}
 use Rattle.std.specs.Option.{option_and_then}
+use Rattle.std.proofs.lemmas.Option.{same_Some}
 use Rattle.irc_relay.specs.Links.{AreJoined, Link, Name, has_ends, joined, part, same}
 use Rattle.irc_relay.specs.Links.{linked as are_linked}
 use Rattle.irc_relay.specs.Lemmas.TellingNames.{Telling, alike, same_when, tell, unlike}
@@ -25,7 +26,6 @@ use Rattle.irc_items.specs.Lemmas.SetUpFacts.{among_at, only_place, there, viewe
 use Rattle.irc_net.specs.Faults.{item_fault}
 use Rattle.irc_net.specs.OneRoom.{IsKeptSound}
 use Rattle.irc_daemons.proofs.Asked.{none_refused}
-use Rattle.irc_daemons.proofs.Lists.{inside}
 use Rattle.irc_daemons.proofs.Sent.{server_at}
 
 -- ---- places
@@ -92,14 +92,10 @@ joined_then : (l : Link) (links : List Link) (s t : Name) → AreJoined links s 
 unfolding part
 joined_then l links s t is = ap (λ p. if same p (part links l.far) then part links l.near else p) is
 
-one_of : (b c : Bool) → (b || c) ≡ true → (b ≡ true) ⊎ (c ≡ true)
-one_of true c is = inl refl
-one_of false c is = inr is
-
 joined_by : (l : Link) (links : List Link) (s t : Name) → has_ends l s t ≡ true
     → AreJoined (l ∷ links) s t
 joined_by l links s t is =
-    by (one_of (same l.near s && same l.far t) (same l.near t && same l.far s) is)
+    by (or_cases (same l.near s && same l.far t) (same l.near t && same l.far s) is)
   where
     forth : same l.near s ≡ true → same l.far t ≡ true → AreJoined (l ∷ links) s t
     forth one other =
@@ -122,7 +118,7 @@ pub linked_joins : (links : List Link) (s t : Name) → are_linked links s t ≡
     → AreJoined links s t
 linked_joins [] s t is = cc is
 linked_joins (l ∷ links) s t is =
-    by (one_of (has_ends l s t) (are_linked links s t) is) (linked_joins links s t)
+    by (or_cases (has_ends l s t) (are_linked links s t) is) (linked_joins links s t)
   where
     by : (has_ends l s t ≡ true) ⊎ (are_linked links s t ≡ true)
         → (are_linked links s t ≡ true → AreJoined links s t) → AreJoined (l ∷ links) s t
@@ -194,7 +190,7 @@ module _ (rest_law : RestAsLines) (net : ByteNetwork) (kept : IsKeptSound net)
       where
         by : (b : Bool) → nat_eq n f ≡ b → b ≡ false
         by true one =
-            let is : near ≡ far = inside near far
+            let is : near ≡ far = same_Some near far
             (sym near_at ∙ ap (slice_get net.network.names) (eqb-true n f one) ∙ far_at) in
             cc (sym parted ∙ same_when (part net.network.links near) (part net.network.links far)
             (ap (part net.network.links) is))

@@ -6,6 +6,9 @@ use Rattle.std.proofs.lemmas.Bool.{eqb-true}
 use Rattle.std.proofs.lemmas.Grind.{flat_map-append}
 use Rattle.std.specs.List.{flat_map, slice_get, slice_set}
 use Rattle.std.specs.Option.{option_map_or}
+use Rattle.std.proofs.Math.Nat.{suc_inj}
+use Rattle.irc_wires.specs.Lemmas.PutWires.{one_before}
+use Rattle.irc_names.specs.Lemmas.PlainFacts.{nat_eq-turned}
 use Rattle.irc_batch.specs.Batches.{Sent, end_of, end_of_link, line_on, line_to}
 use Rattle.irc_line.specs.Reading.{read_of}
 use Rattle.irc_server.specs.Served.{ReadEvent, link_says}
@@ -16,7 +19,7 @@ use Rattle.irc_network.specs.Network.{line_queued, reply, sent_out, node_asked, 
 use Rattle.irc_network.specs.Network.{node_changed_at, with_reply, with_node}
 use Rattle.irc_daemons.specs.Alike.{bytes_to, client_bytes}
 use Rattle.irc_daemons.specs.Receiving.{bytes_received, has_come}
-use Rattle.irc_daemons.proofs.Lists.{one_before, set_elsewhere, set_here, turned}
+use Rattle.irc_daemons.proofs.Lists.{set_elsewhere, set_here}
 use Rattle.irc_daemons.proofs.Sent.{Lines, server_at}
 
 abbrev joined : Lines → List ℕ
@@ -46,9 +49,6 @@ gets_none old new same = record {
 -- what clients have received once one has received a line more
 abbrev received_then : List Lines → ℕ → List ℕ → Lines → List Lines
 received_then received earlier text lines = slice_set received earlier (lines ++ text ∷ [])
-
-less : (a b : ℕ) → suc a ≡ suc b → a ≡ b
-less a b is = cc is
 
 -- a line of one client is none of another
 line_of_other : (one q : ℕ) (text : List ℕ) → nat_eq one q ≡ false
@@ -109,7 +109,7 @@ gets_line (suc earlier) text progress = by (slice_get progress.state.received ea
             ≡ joined (unwrap_or (slice_get progress.state.received d) [])
             ++ (if b then text else [])
         more_by d true one =
-            let same : d ≡ earlier = sym (less earlier d (eqb-true (suc earlier) (suc d) one)) in
+            let same : d ≡ earlier = sym (suc_inj (eqb-true (suc earlier) (suc d) one)) in
             ap (λ n. joined (unwrap_or
             (slice_get (received_then progress.state.received earlier text lines) n) [])) same
             ∙ ap (λ o. joined (unwrap_or o []))
@@ -122,7 +122,7 @@ gets_line (suc earlier) text progress = by (slice_get progress.state.received ea
         more_by d false two =
             ap (λ o. joined (unwrap_or o []))
             (set_elsewhere progress.state.received earlier d (lines ++ text ∷ [])
-            (turned d earlier ∙ one_before earlier d two))
+            (nat_eq-turned d earlier ∙ one_before earlier d two))
             ∙ sym (append-nil (joined (unwrap_or (slice_get progress.state.received d) [])))
 
         more_now : (q : ℕ) → has_come progress.state q ≡ true

@@ -3,6 +3,7 @@
 use Rattle.std.proofs.Common.{◌≡◌, ℕ, zero, suc, false, is_some, Option, Some, None, List, []}
 use Rattle.std.proofs.Common.{length, refl, sym, ◌∙◌, ap, subst, option_map, unwrap_or}
 use Rattle.std.specs.List.{flat_map, slice_get}
+use Rattle.std.proofs.lemmas.Option.{same_Some}
 use Rattle.irc_relay.specs.Links.{Name}
 use Rattle.irc_relay.specs.Relay.{IsFront}
 use Rattle.irc_world.specs.World.{home_in}
@@ -16,7 +17,6 @@ use Rattle.irc_daemons.specs.AsBytes.{IsAsBytes, IsServerIf, numbers_at}
 use Rattle.irc_daemons.specs.AsNetwork.{AreReceived, AreSeated, IsAsNetwork}
 use Rattle.irc_daemons.specs.Daemons.{Daemons}
 use Rattle.irc_daemons.specs.Receiving.{bytes_received, has_come}
-use Rattle.irc_daemons.proofs.Lists.{inside}
 use Rattle.irc_daemons.proofs.Sent.{Lines, server_at}
 
 -- the two agree, place by place and client by client
@@ -57,7 +57,7 @@ server_if numbers (Some engine) (Some one) (Some other) same is = record {
   in_order = is.in_order;
   framers = is.framers;
   servers = subst (λ server. AreServersAlikeIf numbers engine.now.server server)
-      (sym (inside other.server one.server same)) is.servers;
+      (sym (same_Some other.server one.server same)) is.servers;
 }
 
 module _ {W : Type 0} (names : List Name) (daemons : Daemons W) (one other : ByteNetwork)

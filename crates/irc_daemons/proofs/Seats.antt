@@ -4,18 +4,14 @@ use Rattle.std.proofs.Common.{refl, sym, ◌∙◌, ap, if◌then◌else◌}
 use Rattle.std.proofs.lemmas.Bool.{eq-eqb, eqb-true}
 use Rattle.std.specs.FinMap.{get}
 use Rattle.std.specs.Option.{option_and_then}
+use Rattle.std.proofs.lemmas.Option.{same_Some}
+use Rattle.irc_names.specs.Lemmas.PlainFacts.{none_if_not_some}
 use Rattle.irc_routes.specs.declared.server_row.ServerRow.{ServerRow}
 use Rattle.irc_routes.specs.Known.{row_of}
 use Rattle.irc_stage.specs.View.{View}
 use Rattle.irc_daemons.specs.Alike.{AreServersAlike, AreRowsAlike, Numbers}
 use Rattle.irc_daemons.specs.Daemons.{AreJoined, AreLinksOpen, Daemons}
 use Rattle.irc_daemons.specs.Steps.{seat_after, unless_taken}
-use Rattle.irc_daemons.proofs.Lists.{inside}
-
--- nobody has what is not there
-is_nobody : {A : Type 0} (o : Option A) → is_some o ≡ false → o ≡ None
-is_nobody None none = refl
-is_nobody (Some x) none = cc none
 
 module _ {W : Type 0} (old : Daemons W) (place conn : ℕ) where
   -- a seat is an old one, or the newcomer's
@@ -37,13 +33,13 @@ module _ {W : Type 0} (old : Daemons W) (place conn : ℕ) where
           by_seat true same none = cc none
           by_seat false two found =
               is_old (at ∙ found)
-              (λ here. ap (λ n. nat_eq n conn) (sym (inside seat q found)) ∙ two)
+              (λ here. ap (λ n. nat_eq n conn) (sym (same_Some seat q found)) ∙ two)
 
       by : (a b : Bool) → nat_eq x place ≡ a → nat_eq client (suc old.came) ≡ b
           → (if a then (if b then Some conn else unless_taken conn (old.seats x client))
           else old.seats x client) ≡ Some q → SeatThen x client q
       by true true here next found = is_new (eqb-true x place here)
-          (eqb-true client (suc old.came) next) (sym (inside conn q found))
+          (eqb-true client (suc old.came) next) (sym (same_Some conn q found))
       by true false here next found = kept (old.seats x client) refl found
       by false b there next found = is_old found (λ here. cc (sym (eq-eqb x place here) ∙ there))
 
@@ -151,7 +147,7 @@ module _ {W : Type 0} (old : Daemons W) (place conn : ℕ) where
       rows_are (Some mine) (Some theirs) is = is
 
       nobody : get own.clients conn ≡ None
-      nobody = is_nobody (get own.clients conn) free
+      nobody = none_if_not_some (get own.clients conn) free
 
       not_taken : (o : Option ℕ) → option_and_then (get own.clients) o
           ≡ option_and_then (get own.clients) (unless_taken conn o)

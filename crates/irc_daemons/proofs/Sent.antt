@@ -8,6 +8,7 @@ use Rattle.std.specs.FinMap.{FinMap, get, get-insert, insert}
 use Rattle.std.specs.List.{slice_get}
 use Rattle.std.specs.Option.{option_and_then, option_map_or}
 use Rattle.std.specs.Ordering.{nat_cmp}
+use Rattle.irc_names.specs.Lemmas.PlainFacts.{nat_eq-turned}
 use Rattle.irc_batch.specs.Batches.{Sent, end_of, end_of_link, line_on, line_to}
 use Rattle.irc_line.specs.Reading.{read_of}
 use Rattle.irc_server.specs.Served.{ReadEvent, link_says}
@@ -18,7 +19,7 @@ use Rattle.irc_network.specs.Network.{line_queued, reply, sent_out, node_asked, 
 use Rattle.irc_network.specs.Network.{node_changed_at, waiting, with_reply, with_node}
 use Rattle.irc_network.specs.ByteNetwork.{waiting_at}
 use Rattle.irc_network.specs.Whole.{has_way}
-use Rattle.irc_daemons.proofs.Lists.{set_elsewhere, set_here, turned}
+use Rattle.irc_daemons.proofs.Lists.{set_elsewhere, set_here}
 use Rattle.irc_daemons.proofs.Written.{bodies, body_on}
 
 abbrev pub Lines : Type 0
@@ -49,13 +50,13 @@ queued to text node y way = by (get node.queues to) refl (nat_eq to y) refl
     by (Some lines) is true one =
         ap (λ o. unwrap_or o []) (get-put node.queues to (lines ++ line_body text ∷ []) y)
         ∙ ap (λ b. unwrap_or (cond b (Some (lines ++ line_body text ∷ [])) (get node.queues y)) [])
-        (turned y to ∙ one)
+        (nat_eq-turned y to ∙ one)
         ∙ ap (λ o. unwrap_or o [] ++ line_body text ∷ [])
         (sym is ∙ ap (get node.queues) (eqb-true to y one))
     by (Some lines) is false two =
         ap (λ o. unwrap_or o []) (get-put node.queues to (lines ++ line_body text ∷ []) y)
         ∙ ap (λ b. unwrap_or (cond b (Some (lines ++ line_body text ∷ [])) (get node.queues y)) [])
-        (turned y to ∙ two)
+        (nat_eq-turned y to ∙ two)
         ∙ sym (append-nil (waiting node y))
 
 queued_server : (to : ℕ) (text : List ℕ) (node : Node)
@@ -83,12 +84,12 @@ queued_way to text node y = by (get node.queues to) refl (nat_eq to y) refl
     by (Some lines) is true one =
         ap is_some (get-put node.queues to (lines ++ line_body text ∷ []) y)
         ∙ ap (λ b. is_some (cond b (Some (lines ++ line_body text ∷ [])) (get node.queues y)))
-        (turned y to ∙ one)
+        (nat_eq-turned y to ∙ one)
         ∙ ap is_some (sym is ∙ ap (get node.queues) (eqb-true to y one))
     by (Some lines) is false two =
         ap is_some (get-put node.queues to (lines ++ line_body text ∷ []) y)
         ∙ ap (λ b. is_some (cond b (Some (lines ++ line_body text ∷ [])) (get node.queues y)))
-        (turned y to ∙ two)
+        (nat_eq-turned y to ∙ two)
 
 -- ---- what one thing does that is put out
 

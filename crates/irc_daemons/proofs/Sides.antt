@@ -6,11 +6,12 @@
 use Rattle.std.proofs.Common.{◌≡◌, ℕ, zero, suc, Bool, true, false, ◌&&◌, ◌||◌, ◌⊎◌, inl, inr}
 use Rattle.std.proofs.Common.{is_some, Option, Some, None, List, [], ◌∷◌, nat_eq, refl, sym, ◌∙◌}
 use Rattle.std.proofs.Common.{ap, subst, unwrap_or, if◌then◌else◌}
-use Rattle.std.proofs.lemmas.Bool.{and_parts, eq-eqb, or_parts}
+use Rattle.std.proofs.lemmas.Bool.{and_parts, eq-eqb, or_parts, or_cases}
 use Rattle.std.specs.FinMap.{FinMap, contains_key-keys, get, keys}
 use Rattle.std.specs.List.{slice_get}
 use Rattle.std.specs.Option.{option_and_then, option_map_or}
 use Rattle.std.specs.Ordering.{nat_cmp}
+use Rattle.std.proofs.lemmas.Option.{same_Some}
 use Rattle.irc_relay.specs.Laws.{LinkTakenOut}
 use Rattle.irc_relay.specs.Links.{AreLinked, HasEnds, IsForest, Link, Name, has_ends, joined}
 use Rattle.irc_relay.specs.Links.{links_without, part, same}
@@ -30,7 +31,6 @@ use Rattle.irc_items.specs.Sound.{IsPlaceOf, IsSound}
 use Rattle.irc_items.specs.Lemmas.SetUpFacts.{at_place, placed}
 use Rattle.irc_net.specs.OneRoom.{IsKeptSound}
 use Rattle.irc_daemons.proofs.Asked.{AllStill}
-use Rattle.irc_daemons.proofs.Lists.{inside}
 use Rattle.irc_daemons.proofs.Permitted.{IsServing, linked_joins, names_same, placed_by}
 use Rattle.irc_daemons.proofs.Permitted.{serves_there, sound_at_rest, way_is}
 use Rattle.irc_daemons.proofs.Relinked.{IsRelinked, is_parted, parted_net}
@@ -68,12 +68,8 @@ all_still net rest = still_rows net.wires rest
 
 -- ---- links
 
-either : (b c : Bool) → (b || c) ≡ true → (b ≡ true) ⊎ (c ≡ true)
-either true c is = inl refl
-either false c is = inr is
-
 ends_are : (l : Link) (s t : Name) → has_ends l s t ≡ true → HasEnds l s t
-ends_are l s t is = by (either (same l.near s && same l.far t) (same l.near t && same l.far s) is)
+ends_are l s t is = by (or_cases (same l.near s && same l.far t) (same l.near t && same l.far s) is)
   where
     by : ((same l.near s && same l.far t) ≡ true) ⊎ ((same l.near t && same l.far s) ≡ true)
         → HasEnds l s t
@@ -88,7 +84,7 @@ pub link_there : (links : List Link) (s t : Name) → are_linked links s t ≡ t
     → AreLinked links s t
 link_there [] s t is = cc is
 link_there (l ∷ links) s t is =
-    by (either (has_ends l s t) (are_linked links s t) is) (link_there links s t)
+    by (or_cases (has_ends l s t) (are_linked links s t) is) (link_there links s t)
   where
     by : (has_ends l s t ≡ true) ⊎ (are_linked links s t ≡ true)
         → (are_linked links s t ≡ true → AreLinked links s t) → AreLinked (l ∷ links) s t
@@ -181,7 +177,7 @@ module _ (world_law : WorldIsSound) (taken_out : LinkTakenOut) (rest_law : RestA
         → slice_get net.network.names y ≡ Some other → one ≡ other → nat_eq x y ≡ true
     same_place x y one other one_at other_at is =
         eq-eqb x y
-        (inside x y
+        (same_Some x y
         (sym (placed_by net.network sound.set_up x one one_at) ∙ ap (server_place net.network) is
         ∙ placed_by net.network sound.set_up y other other_at))
 

@@ -2,10 +2,12 @@
 use Rattle.std.proofs.Common.{◌≡◌, ℕ, Bool, true, false, ◌||◌, is_some, nat_eq, Option, Some, None}
 use Rattle.std.proofs.Common.{List, [], ◌∷◌, ◌++◌, refl, sym, ◌∙◌, ap, subst, option_map}
 use Rattle.std.proofs.Common.{if◌then◌else◌}
-use Rattle.std.proofs.lemmas.Bool.{and_parts, eqb-true}
+use Rattle.std.proofs.lemmas.Bool.{and_parts, eqb-true, or_left, or_from}
 use Rattle.std.specs.FinMap.{get}
 use Rattle.std.specs.List.{list_all, list_any}
 use Rattle.std.specs.Option.{option_and_then}
+use Rattle.std.proofs.lemmas.Option.{same_Some}
+use Rattle.irc_names.specs.Lemmas.PlainFacts.{nat_eq-turned, or_first, nat_eq-unlike}
 use Rattle.irc_batch.specs.Batches.{Sent, end_of, end_of_link, line_on, line_to}
 use Rattle.irc_stage.specs.Ways.{AreEnds, IsMetEnd}
 use Rattle.irc_routes.specs.declared.server_row.ServerRow.{ServerRow}
@@ -21,7 +23,6 @@ use Rattle.irc_server.specs.Connected.{client_comes, client_goes, ends_client, l
 use Rattle.irc_batch.specs.declared.close_reason.CloseReason.{CloseReason}
 use Rattle.irc_daemons.specs.Clients.{ClientsStay}
 use Rattle.irc_daemons.specs.Items.{is_on_link}
-use Rattle.irc_daemons.proofs.Lists.{inside, turned}
 
 -- ---- ends that are alike
 
@@ -38,7 +39,7 @@ other_ends numbers own other alike name link is =
     by (Some mine) None one two rows = absurd rows
     by (Some mine) (Some theirs) one two rows =
         let here : theirs.link ≡ link =
-        inside theirs.link link (sym (ap (option_map (λ (r : ServerRow). r.link)) two) ∙ is) in
+        same_Some theirs.link link (sym (ap (option_map (λ (r : ServerRow). r.link)) two) ∙ is) in
         subst IsMetEnd
         (sym (ap (get other.ends) (sym here) ∙ alike.alike.ends theirs.link
         ∙ ap (option_and_then (get own.ends)) rows.1))
@@ -63,21 +64,17 @@ no_new_end (link_down link) conn = refl
 -- the link that is being opened is one that comes
 new_line : (read_event : ReadEvent) (number : ℕ) (text : List ℕ)
     → is_on_new read_event (line_on number text) ≡ link_comes number read_event
-new_line (link_up link starts) number text = turned number link
+new_line (link_up link starts) number text = nat_eq-turned number link
 new_line (of_client client_event) number text = refl
 new_line (link_says link read) number text = refl
 new_line (link_down link) number text = refl
 
 new_end : (read_event : ReadEvent) (number : ℕ) (reason : CloseReason)
     → is_on_new read_event (end_of_link number reason) ≡ link_comes number read_event
-new_end (link_up link starts) number reason = turned number link
+new_end (link_up link starts) number reason = nat_eq-turned number link
 new_end (of_client client_event) number reason = refl
 new_end (link_says link read) number reason = refl
 new_end (link_down link) number reason = refl
-
-none_or : (b c : Bool) → c ≡ false → (b || c) ≡ true → b ≡ true
-none_or true c none is = refl
-none_or false c none is = cc (sym none ∙ is)
 
 -- a client that is there does not go by what is refused
 not_going : (view : View) (read_event : ReadEvent) (q : ℕ) → serves_read_event view read_event
@@ -110,14 +107,6 @@ module _ (own_law : ServedGoesToItsOwn) (view : View) (read_event : ReadEvent)
       (and_parts (is_its_own view sent || is_on_new read_event sent)
       (list_all (λ s. is_its_own view s || is_on_new read_event s) outs) own).1
 
-  -- what is not there has no other number
-  not_there : (one q : ℕ) (got : ℕ → Bool) → got q ≡ false → got one ≡ true → nat_eq one q ≡ false
-  not_there one q got none some = by (nat_eq one q) refl
-    where
-      by : (b : Bool) → nat_eq one q ≡ b → b ≡ false
-      by true same = cc (sym none ∙ ap got (sym (eqb-true one q same)) ∙ some)
-      by false two = refl
-
   abbrev has_client : ℕ → Bool
   has_client q = is_some (get view.clients q)
 
@@ -128,12 +117,12 @@ module _ (own_law : ServedGoesToItsOwn) (view : View) (read_event : ReadEvent)
   client_there : (conn : ℕ) (text : List ℕ) (outs : List Sent) → IsOwn (line_to conn text ∷ outs)
       → has_client conn ≡ true
   client_there conn text outs own =
-      none_or (has_client conn) (is_on_new read_event (line_to conn text))
+      or_first (has_client conn) (is_on_new read_event (line_to conn text))
       (no_new_client read_event conn text) (first_own (line_to conn text) outs own)
 
   client_ends : (conn : ℕ) (outs : List Sent) → IsOwn (end_of conn ∷ outs) → has_client conn ≡ true
   client_ends conn outs own =
-      none_or (has_client conn) (is_on_new read_event (end_of conn)) (no_new_end read_event conn)
+      or_first (has_client conn) (is_on_new read_event (end_of conn)) (no_new_end read_event conn)
       (first_own (end_of conn) outs own)
 
   -- what goes on a link goes on one that is there or comes
@@ -156,7 +145,7 @@ module _ (own_law : ServedGoesToItsOwn) (view : View) (read_event : ReadEvent)
   none_for client [] none own = refl
   none_for client (line_to conn text ∷ outs) none own =
       ap (λ b. (if b then text else []) ++ client_bytes client outs)
-      (not_there conn client has_client none (client_there conn text outs own))
+      (nat_eq-unlike has_client client conn none (client_there conn text outs own))
       ∙ none_for client outs none (rest_own (line_to conn text) outs own)
   none_for client (end_of conn ∷ outs) none own =
       none_for client outs none (rest_own (end_of conn) outs own)
@@ -170,19 +159,19 @@ module _ (own_law : ServedGoesToItsOwn) (view : View) (read_event : ReadEvent)
   none_answered q [] none no_end own = refl
   none_answered q (line_to conn text ∷ outs) none no_end own =
       ap (λ b. (if b then text else []) ++ answers q outs)
-      (not_there conn q has_client none (client_there conn text outs own))
+      (nat_eq-unlike has_client q conn none (client_there conn text outs own))
       ∙ none_answered q outs none no_end (rest_own (line_to conn text) outs own)
   none_answered q (end_of conn ∷ outs) none no_end own =
       ap (λ b. if b then [] else answers q outs)
-      (not_there conn q has_client none (client_ends conn outs own))
+      (nat_eq-unlike has_client q conn none (client_ends conn outs own))
       ∙ none_answered q outs none no_end (rest_own (end_of conn) outs own)
   none_answered q (line_on link text ∷ outs) none no_end own =
       ap (λ b. (if b then text else []) ++ answers q outs)
-      (not_there link q has_link no_end (link_there link text outs own))
+      (nat_eq-unlike has_link q link no_end (link_there link text outs own))
       ∙ none_answered q outs none no_end (rest_own (line_on link text) outs own)
   none_answered q (end_of_link link reason ∷ outs) none no_end own =
       ap (λ b. if b then [] else answers q outs)
-      (not_there link q has_link no_end (link_ends link reason outs own))
+      (nat_eq-unlike has_link q link no_end (link_ends link reason outs own))
       ∙ none_answered q outs none no_end (rest_own (end_of_link link reason) outs own)
 
   -- who has no link's number is closed by its own end alone
@@ -203,7 +192,7 @@ module _ (own_law : ServedGoesToItsOwn) (view : View) (read_event : ReadEvent)
       by false is rest = rest is
   none_closed q (end_of_link link reason ∷ outs) no_end none own =
       ap (λ b. b || is_closed_by q outs)
-      (not_there link q has_link no_end (link_ends link reason outs own))
+      (nat_eq-unlike has_link q link no_end (link_ends link reason outs own))
       ∙ none_closed q outs no_end none (rest_own (end_of_link link reason) outs own)
 
   -- a link gets nothing where nothing goes on any
@@ -212,11 +201,11 @@ module _ (own_law : ServedGoesToItsOwn) (view : View) (read_event : ReadEvent)
   none_linked q [] no_client none own = refl
   none_linked q (line_to conn text ∷ outs) no_client none own =
       ap (λ b. (if b then text else []) ++ answers q outs)
-      (not_there conn q has_client no_client (client_there conn text outs own))
+      (nat_eq-unlike has_client q conn no_client (client_there conn text outs own))
       ∙ none_linked q outs no_client none (rest_own (line_to conn text) outs own)
   none_linked q (end_of conn ∷ outs) no_client none own =
       ap (λ b. if b then [] else answers q outs)
-      (not_there conn q has_client no_client (client_ends conn outs own))
+      (nat_eq-unlike has_client q conn no_client (client_ends conn outs own))
       ∙ none_linked q outs no_client none (rest_own (end_of conn) outs own)
   none_linked q (line_on link text ∷ outs) no_client none own = cc none
   none_linked q (end_of_link link reason ∷ outs) no_client none own =
@@ -243,16 +232,12 @@ module _ (own_law : ServedGoesToItsOwn) (view : View) (read_event : ReadEvent)
       by true = none_for client (served view read_event).out none (own_law view read_event ends)
       by false = refl
 
-  no_link : (b c : Bool) → b ≡ false → c ≡ false → (b || c) ≡ false
-  no_link true c one other = cc one
-  no_link false c one other = other
-
   pub nothing_answered : (q : ℕ) → link_comes q read_event ≡ false → is_some (get view.clients q)
       ≡ false → is_some (get view.ends q) ≡ false → answers q (reply view read_event).out ≡ []
   nothing_answered q not_new none no_end = by (serves_read_event view read_event)
     where
       by : (b : Bool) → answers q (replied b).out ≡ []
-      by true = none_answered q (served view read_event).out none (no_link (has_end q)
+      by true = none_answered q (served view read_event).out none (or_from (has_end q)
           (link_comes q read_event) no_end not_new) (own_law view read_event ends)
       by false = refl
 
@@ -262,7 +247,7 @@ module _ (own_law : ServedGoesToItsOwn) (view : View) (read_event : ReadEvent)
   never_closed q not_new no_end none = by (serves_read_event view read_event)
     where
       by : (b : Bool) → is_closed_by q (replied b).out ≡ false
-      by true = none_closed q (served view read_event).out (no_link (has_end q)
+      by true = none_closed q (served view read_event).out (or_from (has_end q)
           (link_comes q read_event) no_end not_new) none (own_law view read_event ends)
       by false = refl
 
@@ -287,10 +272,6 @@ module _ (own_law : ServedGoesToItsOwn) (view : View) (read_event : ReadEvent)
       → is_some (get (reply view read_event).state.clients q) ≡ true → StillThere q
   still_there stay q not_new no_end there = by (serves_read_event view read_event) refl there
     where
-      either : (b c : Bool) → b ≡ true → (b || c) ≡ true
-      either true c is = refl
-      either false c is = cc is
-
       by : (b : Bool) → serves_read_event view read_event ≡ b
           → is_some (get (replied b).state.clients q) ≡ true → StillThere q
       by true is has =
@@ -301,7 +282,7 @@ module _ (own_law : ServedGoesToItsOwn) (view : View) (read_event : ReadEvent)
             not_gone = known.not_gone;
           }
       by false is has = record {
-        was = either (is_some (get view.clients q)) (client_comes q read_event) has;
+        was = or_left (is_some (get view.clients q)) (client_comes q read_event) has;
         not_closed = ap (λ b. is_closed_by q (replied b).out) is;
         not_gone = not_going view read_event q is has;
       }

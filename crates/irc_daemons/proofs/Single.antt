@@ -2,10 +2,11 @@
 use Rattle.std.proofs.Common.{◌≡◌, ℕ, Bool, true, false, not, is_some, Option, Some, None, List, []}
 use Rattle.std.proofs.Common.{◌∷◌, ◌++◌, append_assoc, refl, sym, ◌∙◌, ap, subst, unwrap_or, filter}
 use Rattle.std.proofs.Common.{if◌then◌else◌}
-use Rattle.std.proofs.lemmas.Bool.{and_parts}
+use Rattle.std.proofs.lemmas.Bool.{and_parts, not-true}
 use Rattle.std.specs.FinMap.{get}
 use Rattle.std.specs.List.{list_all}
 use Rattle.std.specs.Option.{option_and_then, option_map_or}
+use Rattle.std.proofs.lemmas.Option.{same_Some}
 use Rattle.irc_line.specs.Lines.{Begun}
 use Rattle.irc_outbox.specs.Calls.{Call, asks, reads, writes, closes, taken, taken_by, written}
 use Rattle.irc_batch.specs.Batches.{Sent}
@@ -27,7 +28,6 @@ use Rattle.irc_engine.specs.Writing.{is_some_write}
 use Rattle.irc_daemons.specs.Alike.{AreServersAlike, AreServersAlikeIf, Numbers}
 use Rattle.irc_daemons.specs.AsBytes.{IsServerIf, IsServerOf}
 use Rattle.irc_daemons.specs.Daemons.{unsent}
-use Rattle.irc_daemons.proofs.Lists.{inside}
 use Rattle.irc_daemons.proofs.Sent.{Lines}
 use Rattle.irc_daemons.proofs.Told.{IsRealBegun, IsRealIf, begun_or_none}
 
@@ -76,10 +76,6 @@ pub record IsCarried (conn : ℕ) (old new : Option Connection) (calls : List Ca
   pub not_closed : is_closed_by conn outs ≡ false
   pub bytes : unsent old ++ answers conn outs ≡ written conn calls ++ unsent new
 
-pub negated : (b : Bool) → not b ≡ true → b ≡ false
-negated true is = cc is
-negated false is = refl
-
 pub is_carried : (conn : ℕ) (old new : Option Connection) (calls : List Call) (outs : List Sent)
     → Fate conn old calls outs new → is_open_at new ≡ true → IsCarried conn old new calls outs
 is_carried conn None None calls outs fate opened = cc opened
@@ -88,7 +84,7 @@ is_carried conn (Some old) None calls outs fate opened = cc opened
 is_carried conn (Some old) (Some new) calls outs fate opened =
     let parts = and_parts (is_some old.framer) (not (is_closed_by conn outs))
     (sym fate.still_open ∙ opened) in record {
-      not_closed = negated (is_closed_by conn outs) parts.1;
+      not_closed = not-true (is_closed_by conn outs) parts.1;
       bytes = ap (λ b. old.outbox.bytes ++ bytes_owed b conn outs) (sym parts.0) ∙ fate.carried;
     }
 
@@ -170,5 +166,5 @@ have_views numbers (Some own) (Some other) view is alike =
     record {
       theirs = other;
       is = refl;
-      alike = subst (λ v. AreServersAlike numbers v other) (inside own view is) alike;
+      alike = subst (λ v. AreServersAlike numbers v other) (same_Some own view is) alike;
     }

@@ -1,10 +1,11 @@
 -- As bytes come to a server, no client comes to be at two servers, and each server that is known
 -- stays behind a link that counts.
-use Rattle.std.proofs.Common.{◌≡◌, ◌+◌, ◌≤◌, ℕ, Bool, true, false, is_some, Some, List, ◌++◌}
-use Rattle.std.proofs.Common.{length, nat_eq, refl, sym, ◌∙◌, ap, arith, subst}
+use Rattle.std.proofs.Common.{◌≡◌, ◌≤◌, ℕ, Bool, true, false, is_some, Some, List, ◌++◌}
+use Rattle.std.proofs.Common.{length, nat_eq, refl, sym, ◌∙◌, ap, subst, le-add_right}
 use Rattle.std.proofs.lemmas.Bool.{eqb-true}
 use Rattle.std.proofs.lemmas.List.{length-append}
 use Rattle.std.specs.FinMap.{get}
+use Rattle.std.proofs.lemmas.Option.{same_Some}
 use Rattle.irc_stage.specs.Ways.{AreEnds}
 use Rattle.irc_server.specs.Own.{ServedKeepsEnds}
 use Rattle.irc_network.specs.Node.{Served}
@@ -17,7 +18,6 @@ use Rattle.irc_network.specs.Whole.{IsTidy}
 use Rattle.irc_daemons.specs.Clients.{ClientsStay}
 use Rattle.irc_daemons.proofs.GoesOn.{GoesOn, bytes_go_on}
 use Rattle.irc_daemons.proofs.LackingWords.{AreAllEnds, AreOwn}
-use Rattle.irc_daemons.proofs.Lists.{inside}
 use Rattle.irc_daemons.proofs.OwnClients.{all_bring_nobody, all_keep_ends, all_replies}
 use Rattle.irc_daemons.proofs.Sent.{server_at}
 
@@ -25,11 +25,7 @@ use Rattle.irc_daemons.proofs.Sent.{server_at}
 pub front_enough : (front rest bytes : List ℕ) → bytes ≡ front ++ rest → length front ≤ length bytes
 front_enough front rest bytes is =
     subst (λ n. length front ≤ n) (sym (ap (λ bs. length bs) is ∙ length-append front rest))
-    (most (length front) (length rest))
-  where
-    most : (a b : ℕ) → a ≤ a + b
-    most a b = omega arith
-
+    (le-add_right (length front) (length rest))
 -- ---- one server does something by which no client comes to it
 
 module _ (place : ℕ) (next : Served) (along : Wires) (old new : ByteNetwork)
@@ -41,9 +37,9 @@ module _ (place : ℕ) (next : Served) (along : Wires) (old new : ByteNetwork)
         → nat_eq x place ≡ true → next.state ≡ one
     is_next x one is same =
         let found : Some next.state ≡ Some one =
-        inside (Some next.state) (Some one) (sym goes.server
+        same_Some (Some next.state) (Some one) (sym goes.server
         ∙ ap (server_at new.network) (sym (eqb-true x place same)) ∙ is) in
-        inside next.state one found
+        same_Some next.state one found
 
     pub ends_then : AreEnds next.state.ends next.state.routes → AreAllEnds old.network
         → AreAllEnds new.network

@@ -1,9 +1,10 @@
 -- Each line of a stream is bytes that a line can carry.
-use Rattle.std.proofs.Common.{◌≡◌, ℕ, zero, suc, Bool, true, false, not, cond, ◌&&◌, ◌||◌, Some}
+use Rattle.std.proofs.Common.{◌≡◌, ℕ, zero, suc, Bool, true, false, cond, ◌&&◌, ◌||◌, Some}
 use Rattle.std.proofs.Common.{None, List, [], ◌∷◌, take, refl, ◌∙◌, ap, if◌then◌else◌}
 use Rattle.std.proofs.lemmas.Bool.{or_parts}
 use Rattle.std.specs.List.{AllByRecursion, cons_option, filter_map, list_any, onto_first}
 use Rattle.std.specs.List.{slice_split}
+use Rattle.irc_line.specs.Lemmas.CarriedBytes.{carried_byte}
 use Rattle.irc_line.specs.Bytes.{cut, has_nul, is_line_end, is_nul}
 use Rattle.irc_line.specs.Carried.{IsCarried, is_carried}
 use Rattle.irc_line.specs.Limits.{max_line}
@@ -36,11 +37,6 @@ earlier_no_end [] all = tt
 earlier_no_end (piece ∷ []) all = tt
 earlier_no_end (piece ∷ next ∷ pieces) all = (all.0, earlier_no_end (next ∷ pieces) all.1)
 
-byte_carried : (nul end : Bool) → nul ≡ false → end ≡ false → not (nul || end) ≡ true
-byte_carried true end one other = cc one
-byte_carried false true one other = cc other
-byte_carried false false one other = refl
-
 take_carried : (n : ℕ) (xs : List ℕ) → list_any is_line_end xs ≡ false → list_any is_nul xs ≡ false
     → is_carried (take n xs) ≡ true
 take_carried zero xs no_end no_nul = refl
@@ -48,7 +44,7 @@ take_carried (suc n) [] no_end no_nul = refl
 take_carried (suc n) (x ∷ xs) no_end no_nul =
     let ends = or_parts (is_line_end x) (list_any is_line_end xs) no_end in
     let nuls = or_parts (is_nul x) (list_any is_nul xs) no_nul in
-    ap (λ b. b && is_carried (take n xs)) (byte_carried (is_nul x) (is_line_end x) nuls.0 ends.0)
+    ap (λ b. b && is_carried (take n xs)) (carried_byte (is_nul x) (is_line_end x) nuls.0 ends.0)
     ∙ take_carried n xs ends.1 nuls.1
 
 cut_carried : (piece : List ℕ) → list_any is_line_end piece ≡ false → list_any is_nul piece ≡ false

@@ -8,6 +8,8 @@ use Rattle.std.proofs.lemmas.Bool.{eq-eqb, eqb-true}
 use Rattle.std.specs.FinMap.{get}
 use Rattle.std.specs.List.{AllByRecursion, slice_get}
 use Rattle.std.specs.Option.{option_and_then}
+use Rattle.std.proofs.lemmas.Option.{same_Some}
+use Rattle.irc_names.specs.Lemmas.PlainFacts.{or_first, nat_eq-turned}
 use Rattle.irc_line.specs.Laws.{PiecesCompleteTheSame}
 use Rattle.irc_outbox.specs.Calls.{Call}
 use Rattle.irc_batch.specs.Batches.{Sent}
@@ -56,7 +58,7 @@ use Rattle.irc_daemons.proofs.Heard.{none_stays}
 use Rattle.irc_daemons.proofs.Linking.{IsFree, SeatBefore, alike_lost, alike_up, end_elsewhere}
 use Rattle.irc_daemons.proofs.Linking.{end_then, end_told, end_to_others, EndThen, is_old, is_told}
 use Rattle.irc_daemons.proofs.Linking.{joined_by, numbers_by, seat_before, seat_elsewhere}
-use Rattle.irc_daemons.proofs.Lists.{front_none, inside, rest_none, turned}
+use Rattle.irc_daemons.proofs.Lists.{front_none, rest_none}
 use Rattle.irc_daemons.proofs.Open.{IsOpenOf, open_of}
 use Rattle.irc_daemons.proofs.ReadParts.{part_reads}
 use Rattle.irc_daemons.proofs.Sent.{server_at}
@@ -122,7 +124,7 @@ server_of numbers (Some engine) (Some node) (Some now) same is = record {
   in_order = is.in_order;
   framers = is.framers;
   servers = subst (λ o. AreServersAlikeIf numbers engine.now.server o)
-      (sym (inside now.server node.server same)) is.servers;
+      (sym (same_Some now.server node.server same)) is.servers;
 }
 
 -- ---- no line, and no end of a connection, tells that a link is up
@@ -307,7 +309,7 @@ module _ {W : Type 0} (is_after : W → List Call → Type 0) (pieces : PiecesCo
     is_it is_lost = refl
 
     last_is : last.state ≡ mine.state
-    last_is = inside last.state mine.state (sym last.is ∙ it_took.server_is)
+    last_is = same_Some last.state mine.state (sym last.is ∙ it_took.server_is)
 
     own_clients : (q : ℕ) → is_some (get own.state.clients q) ≡ true
         → open_kind_at (started.connections q) ≡ Some kinds.Client
@@ -781,7 +783,7 @@ module _ {W : Type 0} (is_after : W → List Call → Type 0) (pieces : PiecesCo
             → link_comes q (read_event_of (event_of t conn)) ≡ false
         not_new is_lost is client q seat = refl
         not_new (is_up called) is client q seat =
-            turned conn q ∙ (seat_was client q seat).free refl (ap is_way_by is)
+            nat_eq-turned conn q ∙ (seat_was client q seat).free refl (ap is_way_by is)
 
         no_end : (client q : ℕ) → new.seats place client ≡ Some q
             → is_some (get own.state.ends q) ≡ false
@@ -806,10 +808,6 @@ module _ {W : Type 0} (is_after : W → List Call → Type 0) (pieces : PiecesCo
         left_none (is_up called) q = refl
         left_none is_lost q = refl
 
-        none_or : (b c : Bool) → c ≡ false → (b || c) ≡ true → b ≡ true
-        none_or true c none is = refl
-        none_or false c none is = cc (sym none ∙ is)
-
         serves_mine : ServesClients (numbers_at new place) own.state mine.state
             (event ∷ []) mine.out
         serves_mine = record {
@@ -820,7 +818,7 @@ module _ {W : Type 0} (is_after : W → List Call → Type 0) (pieces : PiecesCo
               let known = still_there own_law own.state (read_event_of event) ends_count stay q
               (not_new tidings refl client q seat) (no_end client q seat) there
               in record {
-                was = none_or (is_some (get own.state.clients q))
+                was = or_first (is_some (get own.state.clients q))
                     (client_comes q (read_event_of event)) (comes_none tidings q) known.was;
                 not_closed = known.not_closed;
                 not_gone = ap (λ b. b || false) (left_none tidings q);
@@ -853,9 +851,9 @@ module _ {W : Type 0} (is_after : W → List Call → Type 0) (pieces : PiecesCo
             let here_now : begun_now.connections q ≡ Some (fresh_connection kinds.Link it.room) =
             it.made.connections q
             ∙ ap (λ b. if b then Some (fresh_connection kinds.Link it.room)
-            else started.connections q) (eq-eqb conn q (inside conn q end)) in
+            else started.connections q) (eq-eqb conn q (same_Some conn q end)) in
             let nobody : started.connections q ≡ None =
-            ap started.connections (sym (inside conn q end)) ∙ it.made.free in record {
+            ap started.connections (sym (same_Some conn q end)) ∙ it.made.free in record {
               is_link = subst (IsOpenOf kinds.Link) (sym here_now)
                   (record { is_open = refl; kind = refl });
               same_unsent = ap unsent nobody ∙ sym (ap unsent here_now);
@@ -901,7 +899,7 @@ module _ {W : Type 0} (is_after : W → List Call → Type 0) (pieces : PiecesCo
             it.made.connections q
             ∙ ap (λ b. if b then Some (fresh_connection kinds.Link it.room)
             else started.connections q)
-            (turned conn q ∙ (seat_was client q seat).free refl (ap is_way_by is))
+            (nat_eq-turned conn q ∙ (seat_was client q seat).free refl (ap is_way_by is))
 
         seats_here : (client q : ℕ) → new.seats place client ≡ Some q
             → is_some (begun_now.connections q) ≡ true → bytes_received mid_net.network client

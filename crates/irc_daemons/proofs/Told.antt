@@ -2,6 +2,7 @@
 use Rattle.std.proofs.Common.{◌≡◌, ℕ, true, is_some, Option, Some, None, List, [], ◌∷◌, ◌++◌, refl}
 use Rattle.std.proofs.Common.{sym, ◌∙◌, ap, subst, unwrap_or, if◌then◌else◌}
 use Rattle.std.proofs.lemmas.Bool.{eq-eqb}
+use Rattle.std.proofs.lemmas.Option.{same_Some}
 use Rattle.arrayvec.specs.ArrayVec.{ArrayVec}
 use Rattle.irc_line.specs.Laws.{PiecesCompleteTheSame}
 use Rattle.irc_line.specs.Lines.{Begun, HasTaken, begun_behind, completed, nothing_begun}
@@ -10,7 +11,7 @@ use Rattle.irc_server.specs.declared.event.Event.{Event}
 use Rattle.irc_engine.specs.declared.kind.ConnectionKind.{ConnectionKind}
 use Rattle.irc_engine.specs.declared.kind.ConnectionKind.TheVariants.{Client, Link}
 use Rattle.irc_engine.specs.Hearing.{line_by, line_event_of, lines_by, Hears}
-use Rattle.irc_daemons.proofs.Lists.{front_none, inside}
+use Rattle.irc_daemons.proofs.Lists.{front_none}
 
 -- ---- framers
 
@@ -47,7 +48,7 @@ module _ (pieces : PiecesCompleteTheSame) where
   stays_real None (Some new) came heard real hears begun is = absurd hears
   stays_real (Some old) (Some new) came heard real hears begun is =
       let known = pieces old (real old refl) in
-      subst IsRealBegun (sym (known.takes came heard new hears).1 ∙ inside new begun is)
+      subst IsRealBegun (sym (known.takes came heard new hears).1 ∙ same_Some new begun is)
       (known.taken came)
 
   pub framed : (old new : Option Begun) (came : List ℕ) (heard : List (List ℕ)) → IsRealIf old

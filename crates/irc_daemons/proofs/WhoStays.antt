@@ -1,7 +1,7 @@
 -- Who is connected after something has happened was so before, or has come by it.
-use Rattle.std.proofs.Common.{◌≡◌, Bool, true, false, not, ◌||◌, is_none, Option, Some, None, refl}
+use Rattle.std.proofs.Common.{◌≡◌, true, not, ◌||◌, is_none, Option, Some, None, refl}
 use Rattle.std.proofs.Common.{sym, ◌∙◌}
-use Rattle.std.proofs.lemmas.Bool.{and_parts, or_parts}
+use Rattle.std.proofs.lemmas.Bool.{and_parts, or_parts, not-true}
 use Rattle.std.specs.FinMap.{get}
 use Rattle.irc_server.specs.Served.{ReadEvent, link_down, link_says, link_up, of_client, served}
 use Rattle.irc_server.specs.Connected.{WhoIsConnected, client_comes, client_goes, has_client}
@@ -23,10 +23,6 @@ is_new view (link_up link starts) serves = none_there (get view.ends link) serve
 is_new view (link_says link read) serves = tt
 is_new view (link_down link) serves = tt
 
-negated : (b : Bool) → not b ≡ true → b ≡ false
-negated true is = cc is
-negated false is = refl
-
 pub clients_stay : WhoIsConnected → ClientsStay
 clients_stay law view read_event conn serves there =
     let now = law view read_event (is_new view read_event serves) in
@@ -35,6 +31,6 @@ clients_stay law view read_event conn serves there =
     (sym (now.clients conn) ∙ there) in
     let neither =
     or_parts (client_goes conn read_event) (is_client_ended conn (served view read_event).out)
-    (negated (client_goes conn read_event
+    (not-true (client_goes conn read_event
     || is_client_ended conn (served view read_event).out) both.1) in
     record { was = both.0; not_ended = neither.1; not_gone = neither.0 }

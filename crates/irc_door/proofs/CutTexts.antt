@@ -1,19 +1,13 @@
 -- A text that was cut makes the same line as the whole one, and is cut once though it is put
 -- together piece by piece.
-use Rattle.std.proofs.Common.{◌≡◌, ℕ, zero, suc, ◌≤◌, List, [], ◌∷◌, ◌++◌, take}
-use Rattle.std.proofs.Common.{refl, sym, ◌∙◌, ap, append_assoc, arith}
-use Rattle.std.proofs.lemmas.List.{take-take}
+use Rattle.std.proofs.Common.{◌≡◌, ℕ, List, [], ◌∷◌, ◌++◌}
+use Rattle.std.proofs.Common.{sym, ◌∙◌, ap, append_assoc, arith}
+use Rattle.irc_numerics.specs.Lemmas.Cutting.{take-append_take}
 use Rattle.irc_line.specs.Limits.{max_line}
 use Rattle.irc_line.specs.Bytes.{crlf, cut, space, colon}
 use Rattle.irc_line.specs.Messages.{line_text, middle_text, named, prefix_of, prefix_text, text}
 use Rattle.irc_line.specs.Lemmas.CutLaws.{cut-cut_append}
 use Rattle.irc_door.specs.MessagesOfTheDay.{reply_to, Told}
-
-take-append_take : (n m : ℕ) (xs ys : List ℕ) → n ≤ m → take n (xs ++ take m ys) ≡ take n (xs ++ ys)
-take-append_take zero m xs ys below = refl
-take-append_take (suc n) m [] ys below = take-take (suc n) m ys below
-take-append_take (suc n) m (x ∷ xs) ys below =
-    ap (λ zs. x ∷ zs) (take-append_take n m xs ys (omega arith))
 
 cut-append_cut : (xs ys : List ℕ) → cut (xs ++ cut ys) ≡ cut (xs ++ ys)
 unfolding cut

@@ -2,6 +2,7 @@
 use Rattle.std.proofs.Common.{◌≡◌, ℕ, Bool, true, false, Option, Some, None, Result, Ok, Err, OnOk}
 use Rattle.std.proofs.Common.{List, [], ◌∷◌, ◌++◌, refl, sym, ◌∙◌, ap, subst}
 use Rattle.std.specs.Option.{option_map}
+use Rattle.std.proofs.lemmas.Option.{same_Some}
 use Rattle.irc_line.specs.Messages.{text}
 use Rattle.irc_batch.specs.Batches.{Batch, Sent, line_to, put_line}
 use Rattle.irc_stage.specs.View.{View}
@@ -21,16 +22,13 @@ pub record IsKnown (guest : Option Guest) (was_asked : Bool) : Type 0 where
   pub guest_is : guest ≡ Some known
   pub asked_is : known.is_asked ≡ was_asked
 
-some_injective : {a b : Bool} → Some a ≡ Some b → a ≡ b
-some_injective is = cc is
-
 pub known_by : (guest : Option Guest) (answer : Option Bool) (was_asked : Bool)
     → answer ≡ option_map (λ (one : Guest). one.is_asked) guest → answer ≡ Some was_asked
     → IsKnown guest was_asked
 known_by (Some guest) (Some b) was_asked by is = record {
   known = guest;
   guest_is = refl;
-  asked_is = some_injective (sym by ∙ is);
+  asked_is = same_Some _ _ (sym by ∙ is);
 }
 known_by (Some guest) None was_asked by is = cc is
 known_by None answer was_asked by is = cc (sym by ∙ is)

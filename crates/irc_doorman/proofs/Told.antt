@@ -3,6 +3,8 @@ use Rattle.std.proofs.Common.{◌≡◌, ℕ, Bool, true, false, not, ◌&&◌, 
 use Rattle.std.proofs.Common.{List, [], ◌∷◌, ◌++◌, refl, sym, ◌∙◌, ap, append_assoc}
 use Rattle.std.proofs.lemmas.Bool.{eqb-true}
 use Rattle.std.proofs.lemmas.List.Folds.{list_any-append}
+use Rattle.std.proofs.Math.Bool.{or-false}
+use Rattle.irc_engine.specs.Lemmas.Layers.{ended_as, shut_by}
 use Rattle.arrayvec.specs.ArrayVec.{ArrayVec}
 use Rattle.irc_batch.specs.Batches.{Sent, end_of, line_to}
 use Rattle.irc_line.specs.Messages.{text}
@@ -24,36 +26,18 @@ use Rattle.irc_doorman.specs.declared.guest.Guest.{Guest}
 use Rattle.irc_doorman.specs.Doormen.{conn_of, fate_at, given, is_there, line_fate, told, Guests}
 use Rattle.irc_doorman.specs.Texts.{bad_password, closing}
 
--- ---- booleans
-
-or_false : (b : Bool) → (b || false) ≡ b
-or_false true = refl
-or_false false = refl
-
-left_or_closed : (a t x : Bool)
-    → ((a || false) && not (t || x)) ≡ ((a || false) && not (x || (t || false)))
-left_or_closed a true true = refl
-left_or_closed a true false = refl
-left_or_closed a false true = refl
-left_or_closed a false false = refl
-
-ended_before : (x t : Bool) → (x || (t || false)) ≡ true → t ≡ false → x ≡ true
-ended_before true t ended none = refl
-ended_before false true ended none = cc none
-ended_before false false ended none = cc ended
-
 -- ---- what closes nobody is said behind
 
 module _ (event : Event) (was new : View) (x more : List Sent)
     (no_client : (q : ℕ) → is_client_ended q more ≡ false)
     (no_link : (q : ℕ) → is_link_ended q more ≡ false) where
   client_as : (q : ℕ) → is_client_ended q x ≡ is_client_ended q (x ++ more)
-  client_as q = sym (or_false (is_client_ended q x))
+  client_as q = sym (or-false (is_client_ended q x))
       ∙ ap (λ b. is_client_ended q x || b) (sym (no_client q))
       ∙ sym (list_any-append (ends_client q) x more)
 
   link_as : (q : ℕ) → is_link_ended q x ≡ is_link_ended q (x ++ more)
-  link_as q = sym (or_false (is_link_ended q x))
+  link_as q = sym (or-false (is_link_ended q x))
       ∙ ap (λ b. is_link_ended q x || b) (sym (no_link q))
       ∙ sym (list_any-append (ends_link q) x more)
 
@@ -93,16 +77,16 @@ module _ (conn : ℕ) (line : ArrayVec ℕ) (one other : List ℕ) where
       → AreConnectedBy was (read_event_of (Line conn line)) (x ++ last) new
   away was new x there by = record {
     clients = λ q. by.clients q
-        ∙ left_or_closed (has_client was q) (nat_eq conn q) (is_client_ended q x)
+        ∙ shut_by (has_client was q) (nat_eq conn q) (is_client_ended q x)
         ∙ ap (λ t. (has_client was q || false) && not t)
         (sym (list_any-append (ends_client q) x last));
     links = λ q. by.links q
         ∙ ap (λ t. (has_link was q || false) && not t)
-        (sym (or_false (is_link_ended q x)) ∙ sym (list_any-append (ends_link q) x last));
+        (sym (or-false (is_link_ended q x)) ∙ sym (list_any-append (ends_link q) x last));
     clients_were_there = λ q ended. was_there q (nat_eq conn q) refl
         (sym (list_any-append (ends_client q) x last) ∙ ended);
     links_were_there = λ q ended. by.links_were_there q
-        (sym (or_false (is_link_ended q x)) ∙ sym (list_any-append (ends_link q) x last) ∙ ended);
+        (sym (or-false (is_link_ended q x)) ∙ sym (list_any-append (ends_link q) x last) ∙ ended);
   }
     where
       was_there : (q : ℕ) (t : Bool) → nat_eq conn q ≡ t
@@ -110,7 +94,7 @@ module _ (conn : ℕ) (line : ArrayVec ℕ) (one other : List ℕ) where
       was_there q true same ended =
           ap (has_client was) (sym (eqb-true conn q same)) ∙ there
       was_there q false differ ended = by.clients_were_there q
-          (ended_before (is_client_ended q x) (nat_eq conn q) ended differ)
+          (ended_as (is_client_ended q x) (nat_eq conn q) ended differ)
 
   turned_away : (server after : Option View) (before between end : List Sent)
       → is_there server conn ≡ true → IsConnectedBy server (Gone conn) before after between

@@ -6,6 +6,8 @@ use Rattle.std.proofs.Common.{arith}
 use Rattle.std.specs.List.{list_all, filter_map, count_by, cons_option, AllByRecursion}
 use Rattle.std.specs.Option.{option_map_or, IfSome}
 use Rattle.std.specs.Cmp.{first_so, second_so}
+use Rattle.std.proofs.lemmas.Option.{same_Some, none-some}
+use Rattle.std.proofs.Math.Bool.{false≢true}
 use Rattle.irc_line.specs.Lemmas.Lengths.{words_size}
 use Rattle.irc_names.specs.Fold.{key}
 use Rattle.irc_names.specs.Limits.{max_nick}
@@ -24,7 +26,6 @@ use Rattle.irc_modes.specs.Lemmas.LimitFacts.{limit-few}
 use Rattle.irc_effects.specs.Room.{Room}
 use Rattle.irc_effects.specs.Seen.{stored_nick, names_member, written_word, changes_words}
 use Rattle.irc_effects.specs.Sendable.{IsStoredNick, IsSentWord, IsSentChange}
-use Rattle.irc_effects.specs.Lemmas.Rows.{not_true, not_none, same_some}
 
 parameter_short : (which : ModeLetter) (word : List ℕ) → is_parameter which word ≡ true
     → length word ≤ 90
@@ -37,12 +38,12 @@ parameter_short letter.Operator word is = let short : length word ≤ max_nick =
     omega (arith, short)
 parameter_short letter.Voice word is = let short : length word ≤ max_nick = nick-fits word is in
     omega (arith, short)
-parameter_short letter.InviteOnly word is = not_true is
-parameter_short letter.Moderated word is = not_true is
-parameter_short letter.NoOutside word is = not_true is
-parameter_short letter.TopicLocked word is = not_true is
-parameter_short letter.Private word is = not_true is
-parameter_short letter.Secret word is = not_true is
+parameter_short letter.InviteOnly word is = absurd (false≢true is)
+parameter_short letter.Moderated word is = absurd (false≢true is)
+parameter_short letter.NoOutside word is = absurd (false≢true is)
+parameter_short letter.TopicLocked word is = absurd (false≢true is)
+parameter_short letter.Private word is = absurd (false≢true is)
+parameter_short letter.Secret word is = absurd (false≢true is)
 
 -- a stored nickname is written as it is
 pub nick_as_stored : (room : Room) (nick : List ℕ) → IsStoredNick room nick
@@ -51,8 +52,8 @@ nick_as_stored room nick is = by (row room.users (key nick)) is
   where
     by : (o : Option User) → option_map (λ (user : User). user.nick) o ≡ Some nick
         → option_map_or (λ (user : User). user.nick) o nick ≡ nick
-    by None is = not_none nick is
-    by (Some user) is = same_some user.nick nick is
+    by None is = absurd (none-some nick is)
+    by (Some user) is = same_Some user.nick nick is
 
 written_short : (room : Room) (member : Bool) (word : List ℕ) → length word ≤ 90
     → IsSentWord room member word → length (if member then stored_nick room word else word) ≤ 90

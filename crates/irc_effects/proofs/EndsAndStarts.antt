@@ -5,6 +5,7 @@ use Rattle.std.specs.List.{list_any}
 use Rattle.std.specs.Option.{option_and_then, option_map_or}
 use Rattle.std.specs.FinMap.{empty, insert, keys, get-empty, get-insert}
 use Rattle.std.specs.Cmp.Lexicographic.{nat_list_cmp_total}
+use Rattle.irc_names.specs.Lemmas.PlainFacts.{none_if_not_some}
 use Rattle.irc_names.specs.Fold.{key}
 use Rattle.irc_names.specs.Tables.{Table, fold_cmp, row, alter}
 use Rattle.irc_names.specs.TableLaws.{same_fold, same_fold-refl, row-alter, row-alter_same}
@@ -19,10 +20,6 @@ use Rattle.irc_effects.specs.After.{after}
 use Rattle.irc_effects.specs.Laws.{LastMemberEndsChannel, JoinMakesChannel, InvitationUsedUp}
 use Rattle.irc_effects.specs.Lemmas.Rows.{no_row, if_not}
 
-absent : {X : Type 0} (o : Option X) → is_some o ≡ false → o ≡ None
-absent None e = refl
-absent (Some x) e = cc
-
 -- whose only key is taken out, that table has no row
 nobody_left : {X : Type 0} (nick : List ℕ) (table : Table X) → keys table ≡ nick ∷ [] → (q : List ℕ)
     → row (alter nick (λ _. None) table) q ≡ None
@@ -31,7 +28,7 @@ nobody_left nick table alone q =
   where
     by_fold : (b : Bool) → same_fold q nick ≡ b → cond b None (row table q) ≡ None
     by_fold true one = refl
-    by_fold false two = absent (row table q) (sym (row-keys table q)
+    by_fold false two = none_if_not_some (row table q) (sym (row-keys table q)
         ∙ ap (list_any (same_fold q)) alone ∙ ap (λ b. b || false) two)
 
 ends : (channel : Channel) → is_nil (keys channel.members) ≡ true → while_members channel ≡ None

@@ -5,6 +5,7 @@ use Rattle.std.specs.Cmp.Lexicographic.{pointwise}
 use Rattle.std.specs.List.{list_any}
 use Rattle.std.specs.Option.{option_and_then}
 use Rattle.std.specs.FinMap.{values}
+use Rattle.std.proofs.lemmas.Bool.{cond-true}
 use Rattle.irc_names.specs.Fold.{key, same}
 use Rattle.irc_names.specs.Tables.{row}
 use Rattle.irc_users.specs.declared.user.User.{User}
@@ -15,7 +16,6 @@ use Rattle.irc_effects.specs.Room.{Room, IsWellFormed}
 use Rattle.irc_effects.specs.Seen.{Showing, seen, shown_to, sees, share_channel, full_sender}
 use Rattle.irc_effects.specs.Seen.{line_from}
 use Rattle.irc_effects.specs.Laws.{quit_line, QuitSeenOnce}
-use Rattle.irc_effects.specs.Lemmas.Rows.{if_true}
 use Rattle.irc_effects.specs.Lemmas.OneViewer.{shown_to_one}
 
 -- in a well-formed room, what is shown to a user is all that it is shown
@@ -44,7 +44,7 @@ quit_shown : (room : Room) (nick reason viewer : List ℕ) (user other : User)
     ≡ Some (record { viewer = other.nick; line = quit_line user reason })
 unfolding quit_seen_by
 quit_shown room nick reason viewer user other at named apart share =
-    if_true (sees room (Quit nick reason) other.nick) _ _
+    cond-true (sees room (Quit nick reason) other.nick) _ _
     (ap (quit_seen_by room nick) named
     ∙ both (same nick viewer) (share_channel room nick viewer) apart share)
     ∙ ap (λ o. option_map (λ l. record { viewer = other.nick; line = l })

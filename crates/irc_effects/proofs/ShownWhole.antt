@@ -3,6 +3,7 @@ use Rattle.std.proofs.Common.{◌≡◌, ℕ, ◌+◌, ◌-◌, ◌≤◌, Bool,
 use Rattle.std.proofs.Common.{None, List, [], ◌∷◌, ◌++◌, length, codes, refl, sym, ap, subst}
 use Rattle.std.proofs.Common.{option_map, arith, lit≤}
 use Rattle.std.specs.Option.{option_map_or, IfSome}
+use Rattle.std.proofs.lemmas.Option.{same_Some, none-some}
 use Rattle.irc_line.specs.Limits.{max_line}
 use Rattle.irc_line.specs.Bytes.{crlf}
 use Rattle.irc_line.specs.Messages.{Written, named, joined_text, line_text, prefix_text, prefix_of}
@@ -32,7 +33,6 @@ use Rattle.irc_effects.specs.Seen.{full_sender, from_nick, parts_of, stored_nick
 use Rattle.irc_effects.specs.Seen.{target_name, changes_words, change_parts, shown_parts}
 use Rattle.irc_effects.specs.Laws.{IsWhole, whole_text, SentFitsItsLine, SentIsShownWhole}
 use Rattle.irc_effects.specs.Laws.{NamedIsWholeToo}
-use Rattle.irc_effects.specs.Lemmas.Rows.{not_none, same_some}
 use Rattle.irc_effects.proofs.ChangesFit.{nick_as_stored, changes_short}
 
 -- ---- names as they are written
@@ -44,7 +44,7 @@ nick_short room nick within is = by (row room.users (key nick)) refl is
     by : (o : Option User) → row room.users (key nick) ≡ o
         → option_map (λ (user : User). user.nick) o ≡ Some nick
         → length (option_map_or (λ (user : User). user.nick) o nick) ≤ max_nick
-    by None at is = not_none nick is
+    by None at is = absurd (none-some nick is)
     by (Some user) at is = nick-fits user.nick (within.users (key nick) user at).nick
 
 channel_there : (room : Room) (name : List ℕ) → IsStoredChannel room name → IsChannelOrNew room name
@@ -52,8 +52,8 @@ channel_there room name is = by (row room.channels (key name)) is
   where
     by : (o : Option Channel) → option_map (λ (channel : Channel). channel.name) o ≡ Some name
         → IsNameFor name o
-    by None is = not_none name is
-    by (Some channel) is = same_some channel.name name is
+    by None is = absurd (none-some name is)
+    by (Some channel) is = same_Some channel.name name is
 
 channel_as_stored : (room : Room) (name : List ℕ) → IsStoredChannel room name
     → stored_channel room name ≡ name
@@ -61,8 +61,8 @@ channel_as_stored room name is = by (row room.channels (key name)) is
   where
     by : (o : Option Channel) → option_map (λ (channel : Channel). channel.name) o ≡ Some name
         → option_map_or (λ (c : Channel). c.name) o name ≡ name
-    by None is = not_none name is
-    by (Some channel) is = same_some channel.name name is
+    by None is = absurd (none-some name is)
+    by (Some channel) is = same_Some channel.name name is
 
 channel_short : (room : Room) (name : List ℕ) → IsWithinLimits room → IsChannelOrNew room name
     → length (stored_channel room name) ≤ 50

@@ -5,6 +5,9 @@ use Rattle.std.proofs.Common.{length, refl, sym, ◌∙◌, ap, subst, append-ni
 use Rattle.std.specs.List.{filter}
 use Rattle.std.proofs.lemmas.List.Elements.{filter-append}
 use Rattle.std.specs.BTreeMap.{BTreeMap}
+use Rattle.std.proofs.Math.Bool.{and-false}
+use Rattle.std.proofs.lemmas.Bool.{eq-eqb}
+use Rattle.irc_names.specs.Lemmas.PlainFacts.{and_not}
 use Rattle.irc_outbox.specs.declared.outbox.Overflow.{Overflow}
 use Rattle.irc_outbox.specs.Calls.{Call, closes, is_some_bytes}
 use Rattle.irc_batch.specs.Batches.{Sent, end_of, end_of_link, line_on, line_to}
@@ -25,18 +28,14 @@ use Rattle.irc_engine.specs.Moments.{connection_of, lost_at}
 use Rattle.irc_engine.specs.Loops.Tables.{at_connection, no_connection, IsPushedAt, IsClosedAt}
 use Rattle.irc_engine.specs.Loops.Connections.{lost_by, IsLostAs, Ends, Loses, EndsOrWaits}
 use Rattle.irc_engine.specs.Loops.Connections.{ended, stayed, Carries}
-use Rattle.irc_engine.proofs.TableLaws.{nat_eq-refl, IsQueuedAt}
+use Rattle.irc_engine.proofs.TableLaws.{IsQueuedAt}
 use Rattle.irc_engine.proofs.KindLaws.{kind_kept, kind_forgotten, kind_gone}
 use Rattle.irc_engine.specs.Lemmas.CarryingLaws.{IsElsewhere, nothing_owed, passage_as, passage_on}
-use Rattle.irc_engine.specs.Lemmas.CarryingLaws.{untouched, still, kept_none, kept_some}
+use Rattle.irc_engine.specs.Lemmas.CarryingLaws.{untouched, kept_none, kept_some}
 use Rattle.irc_engine.proofs.EachConnection.{adds_none, adds_both, at_once, by_number, set_here}
 use Rattle.irc_engine.proofs.EachConnection.{set_other, nothing_else, close_elsewhere}
 use Rattle.irc_engine.proofs.EachConnection.{line_elsewhere, closed_elsewhere, ends_fewer}
 use Rattle.irc_engine.proofs.EachConnection.{last_close, line_drops}
-
-and_false : (o : Bool) → (o && false) ≡ false
-and_false true = refl
-and_false false = refl
 
 module _ {W : Type 0} (is_after : W → List Call → Type 0) where
   pub carries_on : (old mid new : Connections W) (a b : List Call) (x y : List Sent)
@@ -115,7 +114,7 @@ module _ {W : Type 0} (is_after : W → List Call → Type 0) where
                         ∙ sym (ap (λ (s : Connection). s.outbox.bytes) queued.is);
                     same_room = ap (λ (s : Connection). s.outbox.room) queued.is;
                     still_open = ap (λ (s : Connection). is_some s.framer) queued.is
-                        ∙ still (is_some connection.framer) false refl;
+                        ∙ and_not (is_some connection.framer) false refl;
                     never = refl;
                     never_cut = refl;
                   };
@@ -177,7 +176,7 @@ module _ {W : Type 0} (is_after : W → List Call → Type 0) where
                         ∙ sym (ap (λ (s : Connection). s.outbox.bytes) now_is);
                     same_room = ap (λ (s : Connection). s.outbox.room) now_is;
                     still_open = ap (λ (s : Connection). is_some s.framer) now_is
-                        ∙ still (is_some connection.framer) false refl;
+                        ∙ and_not (is_some connection.framer) false refl;
                     never = refl;
                     never_cut = refl;
                   };
@@ -194,7 +193,7 @@ module _ {W : Type 0} (is_after : W → List Call → Type 0) where
           }
 
     closed_now : (x : Bool) → (x && not (nat_eq conn conn || false)) ≡ false
-    closed_now x = ap (λ t. x && not (t || false)) (nat_eq-refl conn) ∙ and_false x
+    closed_now x = ap (λ t. x && not (t || false)) (eq-eqb conn conn refl) ∙ and-false x
 
     -- the server has closed a connection
     pub carries_close : IsClosedAt conn old.table new.table

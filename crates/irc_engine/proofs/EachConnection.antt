@@ -4,6 +4,7 @@ use Rattle.std.proofs.Common.{is_some, Option, Some, None, Result, Ok, Err, List
 use Rattle.std.proofs.Common.{length, refl, sym, ◌∙◌, ap, subst, append_assoc, append-nil, arith}
 use Rattle.std.proofs.Common.{length-append}
 use Rattle.std.specs.BTreeMap.{BTreeMap, btree_map_len}
+use Rattle.std.proofs.lemmas.Bool.{eq-eqb, eqb-true}
 use Rattle.irc_outbox.specs.declared.wire.IoFault.{IoFault}
 use Rattle.irc_outbox.specs.Calls.{Call, writes, closes, bytes_taken}
 use Rattle.irc_batch.specs.Batches.{Sent, end_of, line_to}
@@ -16,7 +17,6 @@ use Rattle.irc_engine.specs.Loops.Counts.{count_of}
 use Rattle.irc_engine.specs.Loops.Tables.{connection_count, IsSet}
 use Rattle.irc_engine.specs.Moments.{connection_of, lost_at}
 use Rattle.irc_engine.specs.Loops.Connections.{lost_by, IsLostAs, Ends, Loses, Carries}
-use Rattle.irc_engine.proofs.TableLaws.{one_number, nat_eq-refl}
 use Rattle.irc_engine.specs.Lemmas.HearingLaws.{hears_gone}
 use Rattle.irc_engine.proofs.KindLaws.{kind_of_lost, some_lost, lost_by_open, lost_by_close}
 use Rattle.irc_engine.proofs.KindLaws.{open_some}
@@ -48,12 +48,12 @@ by_number conn old new was now calls outs same as_lost apart here q = by (nat_eq
   where
     by : (t : Bool) → nat_eq conn q ≡ t → Passage q (old q) (was q) calls outs (new q) (now q)
     by true one = subst (λ p. Passage p (old p) (was p) calls outs (new p) (now p))
-        (one_number conn q one) here
+        (eqb-true conn q one) here
     by false two = untouched q calls outs (apart q two) (old q) (new q) (was q) (now q) (same q two)
         (as_lost q two)
 
 pub at_once : {A : Type 0} (conn : ℕ) (x y : A) → cond (nat_eq conn conn) x y ≡ x
-at_once conn x y = ap (λ t. cond t x y) (nat_eq-refl conn)
+at_once conn x y = ap (λ t. cond t x y) (eq-eqb conn conn refl)
 
 pub set_other : (old new : ℕ → Option Connection) (conn : ℕ) (connection : Option Connection)
     → IsSet old conn connection new → (q : ℕ) → nat_eq conn q ≡ false → new q ≡ old q
@@ -172,7 +172,7 @@ pub record Drops {W : Type 0} (is_after : W → List Call → Type 0) (conn : �
   pub count : count_of new ≤ count_of old
 
 pub last_close : (conn : ℕ) → 0 + cond (nat_eq conn conn) 1 0 ≡ 1
-last_close conn = ap (λ t. 0 + cond t 1 0) (nat_eq-refl conn)
+last_close conn = ap (λ t. 0 + cond t 1 0) (eq-eqb conn conn refl)
 
 at_last : (l t o : Bool) → t ≡ true → (l || (t && o)) ≡ ((l || (o && true)) && true)
 at_last true t o is = refl
@@ -188,7 +188,7 @@ module _ {W : Type 0} (is_after : W → List Call → Type 0) (conn : ℕ) (old 
   dropped_lost lost = ap is_some (lost conn)
       ∙ some_lost (nat_eq conn conn) (Some connection) (lost_at old.lost conn)
       ∙ at_last (is_some (lost_at old.lost conn)) (nat_eq conn conn) (is_some connection.framer)
-      (nat_eq-refl conn)
+      (eq-eqb conn conn refl)
 
   -- a line that does not fit its outbox
   pub line_drops : (text : List ℕ) → is_some connection.framer ≡ true → connection.outbox.room
@@ -262,7 +262,7 @@ module _ {W : Type 0} (is_after : W → List Call → Type 0) (conn : ℕ) (old 
                 carried = ap (λ xs. (xs ++ []) ++ (connection.outbox.bytes ++ bytes_owed
                     (is_some connection.framer) conn [])) (sym (at_once conn [] []));
                 once = last_close conn;
-                why = cut_off (ap (λ t. t || false) (nat_eq-refl conn));
+                why = cut_off (ap (λ t. t || false) (eq-eqb conn conn refl));
               };
               lost_is = dropped_lost drops.lost;
               keeps_kind = kind_of_lost (Some connection) (lost_at old.lost conn)

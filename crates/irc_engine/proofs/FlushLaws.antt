@@ -9,7 +9,7 @@ use Rattle.std.specs.Cmp.{nat_cmp_is}
 use Rattle.std.specs.BTreeSet.{BTreeSet}
 use Rattle.std.specs.Ordering.{nat_cmp, is_gt}
 use Rattle.std.specs.declared.cmp.Ordering.TheVariants.{Less}
-use Rattle.std.proofs.lemmas.Bool.{eq-eqb, ltb-true, ltb-false}
+use Rattle.std.proofs.lemmas.Bool.{eq-eqb, ltb-true, ltb-false, eqb-true}
 use Rattle.std.proofs.lemmas.Grind.{flat_map-append}
 use Rattle.std.proofs.lemmas.List.Folds.{list_all-append}
 use Rattle.std.proofs.lemmas.List.Sums.{sum_by-append}
@@ -29,7 +29,6 @@ use Rattle.irc_engine.specs.Machines.{Handles}
 use Rattle.irc_stage.specs.View.{View}
 use Rattle.irc_engine.specs.Running.{AllTold, FlushesBy, IsInOrder, RanBy, RanOnBy}
 use Rattle.irc_engine.proofs.RunLaws.{ran_after, ran_connections, ran_both, ran_marked}
-use Rattle.irc_engine.proofs.TableLaws.{one_number}
 
 sorted_none : IsStrictlySortedBy nat_cmp []
 unfolding IsStrictlySortedBy
@@ -155,7 +154,7 @@ module _ (conn : ℕ) (pending later : ℕ → Bool) (was now new : ℕ → Opti
       ∙ ap (λ n. times_written q calls + n) (adds.times q)
 
   was_pending : (q : ℕ) → nat_eq conn q ≡ true → pending q ≡ true
-  was_pending q one = ap pending (sym (one_number conn q one)) ∙ popped
+  was_pending q one = ap pending (sym (eqb-true conn q one)) ∙ popped
 
   pub flush_on : Flushing later was (calls ++ more) new
   flush_on = record {
@@ -187,7 +186,7 @@ module _ (conn : ℕ) (pending later : ℕ → Bool) (was now new : ℕ → Opti
         (later_is q))
         (as_many (nat_eq conn q) (pending q) (is_some (now conn)) (times_written q calls)
         (one_if (has_some_at (was q))) (was_pending q)
-        (λ one. ap (λ p. is_some (now p)) (one_number conn q one) ∙ stays q there)
+        (λ one. ap (λ p. is_some (now p)) (eqb-true conn q one) ∙ stays q there)
         (so_far.unless_closed q (stays q there))));
   }
 

@@ -1,6 +1,7 @@
 -- Of which kind connections are, and how they are told as lost, step by step.
 use Rattle.std.proofs.Common.{◌≡◌, Bool, true, false, ◌&&◌, ◌||◌, cond, is_some, Option, Some, None}
 use Rattle.std.proofs.Common.{refl, sym, ◌∙◌}
+use Rattle.std.proofs.Math.Bool.{or-false}
 use Rattle.irc_engine.specs.declared.kind.ConnectionKind.{ConnectionKind}
 use Rattle.irc_engine.specs.declared.connection_table.Connection.{Connection}
 use Rattle.irc_engine.specs.Carrying.{is_open_at, kind_at, open_kind_at, IsOfKind}
@@ -34,10 +35,6 @@ module _ (old : Option Connection) (was now : Option ConnectionKind) where
       by true is = kind_of_connection is
       by false is = kind_of_loss is
 
-or_none : (b : Bool) → b ≡ (b || false)
-or_none true = refl
-or_none false = refl
-
 or_all : (b : Bool) → true ≡ (b || true)
 or_all true = refl
 or_all false = refl
@@ -45,14 +42,14 @@ or_all false = refl
 -- whether a connection is told as lost: it was, or it is open and lost now
 pub some_lost : (it_is : Bool) (connection : Option Connection) (was : Option ConnectionKind)
     → is_some (lost_by it_is connection was) ≡ (is_some was || (it_is && is_open_at connection))
-some_lost false connection was = or_none (is_some was)
-some_lost true None was = or_none (is_some was)
+some_lost false connection was = sym (or-false (is_some was))
+some_lost true None was = sym (or-false (is_some was))
 some_lost true (Some connection) was = by (is_some connection.framer)
   where
     by : (is_open : Bool) → is_some (cond is_open (Some connection.kind) was)
         ≡ (is_some was || is_open)
     by true = or_all (is_some was)
-    by false = or_none (is_some was)
+    by false = sym (or-false (is_some was))
 
 pub lost_by_open : (it_is : Bool) (connection : Option Connection)
     (kind : ConnectionKind) (was : Option ConnectionKind) → open_kind_at connection ≡ Some kind

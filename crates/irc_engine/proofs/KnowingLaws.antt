@@ -4,6 +4,9 @@ use Rattle.std.proofs.Common.{◌≡◌, ℕ, Bool, true, false, not, ◌&&◌, 
 use Rattle.std.proofs.Common.{Option, Some, None, List, [], ◌∷◌, ◌++◌, refl, sym, ◌∙◌, ap}
 use Rattle.std.proofs.Common.{subst}
 use Rattle.std.specs.FinMap.{get}
+use Rattle.std.proofs.Math.Bool.{or_comm, or-false, and-true, and-false}
+use Rattle.std.proofs.lemmas.Bool.{eqb-true}
+use Rattle.irc_names.specs.Lemmas.PlainFacts.{none_if_not_some}
 use Rattle.arrayvec.specs.ArrayVec.{ArrayVec}
 use Rattle.irc_batch.specs.Batches.{Sent, end_of, end_of_link, line_on, line_to}
 use Rattle.irc_outbox.specs.Calls.{Call}
@@ -35,22 +38,9 @@ use Rattle.irc_engine.specs.Loops.Tables.{at_connection, no_connection, FramesAt
 use Rattle.irc_engine.specs.Moments.{connection_of, lost_at}
 use Rattle.irc_engine.specs.Loops.Tables.{IsSet}
 use Rattle.irc_engine.specs.Loops.Connections.{lost_by, Carries, Loses}
-use Rattle.irc_engine.proofs.TableLaws.{one_number}
 use Rattle.irc_engine.proofs.EachConnection.{set_here}
 
 -- ---- booleans
-
-and_false : (b : Bool) → (b && false) ≡ false
-and_false true = refl
-and_false false = refl
-
-and_true : (b : Bool) → (b && true) ≡ b
-and_true true = refl
-and_true false = refl
-
-or_false : (b : Bool) → (b || false) ≡ b
-or_false true = refl
-or_false false = refl
 
 stays : (b : Bool) → ((b || false) && true) ≡ b
 stays true = refl
@@ -74,10 +64,6 @@ or_second true c true y is = refl
 or_second true c false y is = refl
 or_second false c x y is = is
 
-no_option : {X : Type 0} (option : Option X) → is_some option ≡ false → option ≡ None
-no_option None none = refl
-no_option (Some x) none = cc none
-
 -- ---- whom a server has behind an event
 
 -- one is closed as a client or as a link
@@ -100,7 +86,7 @@ module _ (f g : Option ConnectionKind → Bool) (nobody : f None ≡ false)
   of_the_other : (kind : Option ConnectionKind) (y goes : Bool) → (y && not goes) ≡ g kind
       → (goes ≡ true → kind ≡ None) → y ≡ true → f kind ≡ false
   of_the_other kind y true is gone there = ap f (gone refl) ∙ nobody
-  of_the_other kind y false is gone there = apart kind (sym is ∙ and_true y ∙ there)
+  of_the_other kind y false is gone there = apart kind (sym is ∙ and-true y ∙ there)
 
   there_unless_closed : (kind : Option ConnectionKind)
       (x y goes other_goes ended other_ended : Bool) → (x && not goes) ≡ f kind
@@ -109,10 +95,10 @@ module _ (f g : Option ConnectionKind → Bool) (nobody : f None ≡ false)
   there_unless_closed kind x y goes other_goes true other_ended is other gone there = gone_or x goes
       ∙ sym nobody
   there_unless_closed kind x y goes other_goes false true is other gone there =
-      ap (λ t. x && not t) (or_false goes) ∙ is
+      ap (λ t. x && not t) (or-false goes) ∙ is
       ∙ of_the_other kind y other_goes other gone (there refl) ∙ sym nobody
   there_unless_closed kind x y goes other_goes false false is other gone there =
-      ap (λ t. x && not t) (or_false goes) ∙ is
+      ap (λ t. x && not t) (or-false goes) ∙ is
 
 link_is_no_client : (kind : Option ConnectionKind) → is_link kind ≡ true → is_client kind ≡ false
 link_is_no_client None is = refl
@@ -126,7 +112,7 @@ client_is_no_link (Some kinds.Link) is = cc is
 
 at_number : (known : ℕ → Option ConnectionKind) (conn q : ℕ) (kind : Option ConnectionKind)
     → known conn ≡ kind → nat_eq conn q ≡ true → known q ≡ kind
-at_number known conn q kind is one = ap known (sym (one_number conn q one)) ∙ is
+at_number known conn q kind is one = ap known (sym (eqb-true conn q one)) ∙ is
 
 -- which clients an event brings and takes
 client_by : (event : Event) (known : ℕ → Option ConnectionKind) → IsOf event known
@@ -142,7 +128,7 @@ client_by (Line conn line) known due q = stays (is_client (known q))
 client_by (Gone conn) known due q = by (nat_eq conn q)
   where
     by : (t : Bool) → ((is_client (known q) || false) && not t) ≡ is_client (cond t None (known q))
-    by true = and_false (is_client (known q) || false)
+    by true = and-false (is_client (known q) || false)
     by false = stays (is_client (known q))
 client_by (LinkUp link starts) known due q = by (nat_eq link q) refl
   where
@@ -187,7 +173,7 @@ link_by (LinkLine link line) known due q = stays (is_link (known q))
 link_by (LinkDown link) known due q = by (nat_eq link q)
   where
     by : (t : Bool) → ((is_link (known q) || false) && not t) ≡ is_link (cond t None (known q))
-    by true = and_false (is_link (known q) || false)
+    by true = and-false (is_link (known q) || false)
     by false = stays (is_link (known q))
 
 client_gone : (event : Event) (q : ℕ) (was : Option ConnectionKind)
@@ -259,7 +245,7 @@ module _ (view : View) (known : ℕ → Option ConnectionKind)
         (link_by event known due q) (client_by event known due q)
         (client_gone event q (known q)) client_was
         ∙ ap (λ t. is_link (cond t None kind))
-        (or_swap (is_link_ended q out) (is_client_ended q out) ∙ sym (closed_by_either q out)),
+        (or_comm (is_link_ended q out) (is_client_ended q out) ∙ sym (closed_by_either q out)),
   )
     where
       now : ReadEvent
@@ -267,12 +253,6 @@ module _ (view : View) (known : ℕ → Option ConnectionKind)
 
       kind : Option ConnectionKind
       kind = kind_after event q (known q)
-
-      or_swap : (a b : Bool) → (a || b) ≡ (b || a)
-      or_swap true true = refl
-      or_swap true false = refl
-      or_swap false true = refl
-      or_swap false false = refl
 
       link_was : is_link_ended q out ≡ true → (is_link (known q) || link_comes q now) ≡ true
       link_was ended =
@@ -289,24 +269,18 @@ module _ (view : View) (known : ℕ → Option ConnectionKind)
     after.clients q ∙ ap (λ t. t && not (is_client_ended q out)) (has q).0
         ∙ there_unless_closed is_client is_link refl link_is_no_client (known q)
         (is_client (known q)) (is_link (known q)) false false (is_client_ended q out)
-        (is_link_ended q out) (and_true (is_client (known q))) (and_true (is_link (known q)))
+        (is_link_ended q out) (and-true (is_client (known q))) (and-true (is_link (known q)))
         (λ never. cc never) link_was
         ∙ ap (λ t. is_client (cond t None (known q))) (sym (closed_by_either q out)),
     after.links q ∙ ap (λ t. t && not (is_link_ended q out)) (has q).1
         ∙ there_unless_closed is_link is_client refl client_is_no_link (known q)
         (is_link (known q)) (is_client (known q)) false false (is_link_ended q out)
-        (is_client_ended q out) (and_true (is_link (known q))) (and_true (is_client (known q)))
+        (is_client_ended q out) (and-true (is_link (known q))) (and-true (is_client (known q)))
         (λ never. cc never) client_was
         ∙ ap (λ t. is_link (cond t None (known q)))
-        (swap (is_link_ended q out) (is_client_ended q out) ∙ sym (closed_by_either q out)),
+        (or_comm (is_link_ended q out) (is_client_ended q out) ∙ sym (closed_by_either q out)),
   )
     where
-      swap : (a b : Bool) → (a || b) ≡ (b || a)
-      swap true true = refl
-      swap true false = refl
-      swap false true = refl
-      swap false false = refl
-
       link_was : is_link_ended q out ≡ true → is_link (known q) ≡ true
       link_was ended = sym (has q).1 ∙ after.links_were_there q ended
 
@@ -356,12 +330,12 @@ module _ (conn : ℕ) (calls : List Call) (outs : List Sent) where
       → KeepsKind old was new now → (is_some was ≡ true → old ≡ None)
       → known_kind new now ≡ cond closed None (known_kind old was)
   known_by true is old was new (Some k) fate lost keeps gone =
-      cc (lost ∙ and_false (is_some was || (is_open_at old && not (is_some new))))
+      cc (lost ∙ and-false (is_some was || (is_open_at old && not (is_some new))))
   known_by true is old was None None fate lost keeps gone = refl
   known_by true is None was (Some n) None fate lost keeps gone = absurd fate
   known_by true is (Some o) was (Some n) None fate lost keeps gone =
       ap (λ t. cond t (Some n.kind) None) (fate.still_open ∙ ap (λ t. is_some o.framer && not t) is
-      ∙ and_false (is_some o.framer))
+      ∙ and-false (is_some o.framer))
   known_by false is old (Some w) new (Some k) fate lost keeps gone =
       of_loss k w (subst (λ (s : Option Connection). IsOfKind k s (Some w)) (gone refl)
       (keeps k (kind_of_loss refl)))
@@ -375,7 +349,7 @@ module _ (conn : ℕ) (calls : List Call) (outs : List Sent) where
       sym (ap (λ t. cond t (Some o.kind) None) (shut_then (is_some o.framer) lost))
   known_by false is (Some o) None (Some n) None fate lost keeps gone =
       ap (λ t. cond t (Some n.kind) None) (fate.still_open ∙ ap (λ t. is_some o.framer && not t) is
-      ∙ and_true (is_some o.framer))
+      ∙ and-true (is_some o.framer))
       ∙ ap (λ (k : Option ConnectionKind). cond (is_some o.framer) k None)
       (sym (of_connection n.kind (Some o) (keeps n.kind (kind_of_connection refl))))
 
@@ -522,12 +496,12 @@ module _ {W : Type 0} (is_after : W → List Call → Type 0) where
           (loses.lost q
           ∙ ap (λ t. lost_by t (connection_of old.table conn) (lost_at old.lost q)) same
           ∙ ap (λ p. lost_by true (connection_of old.table p) (lost_at old.lost q))
-          (one_number conn q same))
+          (eqb-true conn q same))
           ∙ open_kind (connection_of old.table q) (lost_at old.lost q) opened
           (not_lost (lost_at old.lost q) (connection_of old.table q) opened (one.lost_is_gone q))
         where
           opened : is_open_at (connection_of old.table q) ≡ true
-          opened = ap (λ p. is_open_at (connection_of old.table p)) (sym (one_number conn q same))
+          opened = ap (λ p. is_open_at (connection_of old.table p)) (sym (eqb-true conn q same))
               ∙ is_open
       known_now q false two =
           both (connection_of new.table q) (connection_of old.table q) (lost_at new.lost q)
@@ -657,7 +631,8 @@ module _ (server : Option View) (connections : ℕ → Option Connection)
     has = λ q view is. subst (λ (k : Option ConnectionKind). HasAs view q k) (sym (by (lost q) q))
         (one.has q view is);
     lost_is_gone =
-        λ q is_lost. no_option (new q) (there_as q ∙ ap is_some (one.lost_is_gone q is_lost));
+        λ q is_lost. none_if_not_some (new q)
+            (there_as q ∙ ap is_some (one.lost_is_gone q is_lost));
   }
     where
       by : (l : Option ConnectionKind) (q : ℕ) → known_kind (new q) l ≡ known_kind (connections q) l
@@ -680,7 +655,7 @@ framed_same conn piece old new (Some (used, kind, line))
         (connection_of old q)) × (is_some (connection_of new q) ≡ is_some (connection_of old q))
     by true one =
         let here = set q ∙ ap (λ t. cond t (Some now) (connection_of old q)) one in
-        let there = ap (connection_of old) (sym (one_number conn q one)) ∙ was in (
+        let there = ap (connection_of old) (sym (eqb-true conn q one)) ∙ was in (
           ap open_kind_at here ∙ ap (λ (s : Connection). open_kind_at (Some s)) so.is
               ∙ sym (ap open_kind_at there
               ∙ ap (λ o. cond (is_some o) (Some connection.kind) None) so.was),
@@ -696,7 +671,7 @@ framed_same conn piece old new None (at_connection connection now was set so) q 
         (connection_of old q)) × (is_some (connection_of new q) ≡ is_some (connection_of old q))
     by true one =
         let here = set q ∙ ap (λ t. cond t (Some now) (connection_of old q)) one ∙ ap Some so.1 in
-        let there = ap (connection_of old) (sym (one_number conn q one)) ∙ was in
+        let there = ap (connection_of old) (sym (eqb-true conn q one)) ∙ was in
         (ap open_kind_at (here ∙ sym there), ap is_some (here ∙ sym there))
     by false two =
         let here = set q ∙ ap (λ t. cond t (Some now) (connection_of old q)) two in
@@ -728,7 +703,7 @@ framed_open conn piece old new used kind line (at_connection connection now was 
 module _ (server : Option View) (connections : ℕ → Option Connection)
     (lost : ℕ → Option ConnectionKind) where
   pub none_to_tell : IsSettled server connections lost → (q : ℕ) → lost q ≡ None
-  none_to_tell settled q = no_option (lost q) (settled q).0
+  none_to_tell settled q = none_if_not_some (lost q) (settled q).0
 
   pub at_one_between : IsSettled server connections lost → IsAtOne server connections lost
   at_one_between settled = record {

@@ -1,8 +1,9 @@
 -- A server as what handles the events of an engine: who is connected to it behind an event, and
 -- what it refuses.
-use Rattle.std.proofs.Common.{◌≡◌, Bool, true, false, ◌&&◌, Option, Some, None, IfErr, OnOk, Result}
+use Rattle.std.proofs.Common.{◌≡◌, Option, Some, None, IfErr, OnOk, Result}
 use Rattle.std.proofs.Common.{List, [], refl, sym, ◌∙◌, subst, append-nil}
 use Rattle.std.specs.FinMap.{get}
+use Rattle.std.proofs.Math.Bool.{and-true}
 use Rattle.irc_batch.specs.Batches.{Sent}
 use Rattle.irc_stage.specs.View.{End, View}
 use Rattle.irc_server.specs.declared.event.Event.{Event}
@@ -78,14 +79,10 @@ server_refuses event server after before outs result has_failed = ran_out_before
 
 -- ---- nothing is due
 
-stays_there : (b : Bool) → b ≡ (b && true)
-stays_there true = refl
-stays_there false = refl
-
 still_all : (view : View) → AreStillConnected view [] view
 still_all view = record {
-  clients = λ conn. stays_there (has_client view conn);
-  links = λ link. stays_there (has_link view link);
+  clients = λ conn. sym (and-true (has_client view conn));
+  links = λ link. sym (and-true (has_link view link));
   clients_were_there = λ conn ended. cc ended;
   links_were_there = λ link ended. cc ended;
 }

@@ -3,6 +3,8 @@ use Rattle.std.proofs.Common.{◌≡◌, ℕ, ◌<◌, Bool, true, false, not, �
 use Rattle.std.proofs.Common.{is_some, Option, Some, None, Result, Ok, Err, List, [], ◌∷◌, ◌++◌}
 use Rattle.std.proofs.Common.{length, refl, sym, ◌∙◌, ap, subst, arith}
 use Rattle.std.specs.BTreeSet.{BTreeSet}
+use Rattle.std.proofs.Math.Bool.{or-true}
+use Rattle.std.proofs.lemmas.Bool.{eqb-true}
 use Rattle.arrayvec.specs.ArrayVec.{ArrayVec}
 use Rattle.irc_outbox.specs.declared.outbox.Overflow.{Overflow}
 use Rattle.irc_outbox.specs.Calls.{Call, is_some_bytes}
@@ -17,7 +19,6 @@ use Rattle.irc_engine.specs.Moments.{connection_of, has}
 use Rattle.irc_engine.specs.Loops.Tables.{IsQueued, IsSet, IsClosedAt, FramesAt}
 use Rattle.irc_engine.specs.Loops.Connections.{ended, stayed, IsNoted, IsMarked, IsMarkedAt}
 use Rattle.irc_engine.specs.Loops.Connections.{KeepsMarks, KeepsNotes, EndsOrWaits}
-use Rattle.irc_engine.proofs.TableLaws.{one_number}
 use Rattle.irc_engine.proofs.EachConnection.{at_once, set_here, set_other}
 
 marked_as : (pending : Bool) (old new : Option Connection) (was now : Bool) → new ≡ old → now ≡ was
@@ -32,10 +33,6 @@ nobody false = refl
 
 marked_none : (pending : Bool) → IsMarked pending None false
 marked_none pending = record { noted_is = nobody pending; not_done = refl }
-
-or_true : (b : Bool) → (b || true) ≡ true
-or_true true = refl
-or_true false = refl
 
 some_behind : (a b : List ℕ) → 0 < length b → is_some_bytes (a ++ b) ≡ true
 some_behind [] [] some = absurd (omega (arith, some))
@@ -78,9 +75,9 @@ module _ {W : Type 0} (conn : ℕ) (old new : Connections W) (others : (q : ℕ)
       by : (q : ℕ) (pending t : Bool) → nat_eq conn q ≡ t → IsMarkedAt q pending old
           → IsMarkedAt q pending new
       by q pending true one is =
-          subst (λ p. IsMarkedAt p pending new) (one_number conn q one)
+          subst (λ p. IsMarkedAt p pending new) (eqb-true conn q one)
           (subst (λ (b : Bool). IsMarked pending (connection_of new.table conn) b) (sym here)
-          (so pending (subst (λ p. IsMarkedAt p pending old) (sym (one_number conn q one)) is)))
+          (so pending (subst (λ p. IsMarkedAt p pending old) (sym (eqb-true conn q one)) is)))
       by q pending false two is = elsewhere q pending two is
 
   -- one connection is not about to be written to any more
@@ -92,7 +89,7 @@ module _ {W : Type 0} (conn : ℕ) (old new : Connections W) (others : (q : ℕ)
           → IsMarkedAt q (cond (nat_eq conn q) false pending) new
       by q pending true one is =
           subst (λ (t : Bool). IsMarkedAt q (cond t false pending) new) (sym one)
-          (subst (λ p. IsMarkedAt p false new) (one_number conn q one)
+          (subst (λ p. IsMarkedAt p false new) (eqb-true conn q one)
           (subst (λ (b : Bool). IsMarked false (connection_of new.table conn) b) (sym here) so))
       by q pending false two is = subst (λ (t : Bool). IsMarkedAt q (cond t false pending) new)
           (sym two) (elsewhere q pending two is)
@@ -112,7 +109,7 @@ module _ {W : Type 0} (conn : ℕ) (old new : Connections W) where
           (Some now) set) true noted
           (λ pending is. subst (λ (s : Option Connection). IsMarked pending s true) (sym (set_here
           (connection_of old.table) (connection_of new.table) conn (Some now) set))
-          (queued_marked pending true connection now bytes so.0 (or_true (pending && true))))
+          (queued_marked pending true connection now bytes so.0 (or-true (pending && true))))
 
   -- no connection has changed
   pub marks_same : ((q : ℕ) → connection_of new.table q ≡ connection_of old.table q)
@@ -128,7 +125,7 @@ module _ {W : Type 0} (conn : ℕ) (old new : Connections W) where
     where
       by : (t : Bool) → nat_eq conn q ≡ t → connection_of new.table q ≡ connection_of old.table q
       by true one = set q ∙ ap (λ t. cond t (Some now) (connection_of old.table q)) one ∙ ap Some is
-          ∙ sym was ∙ ap (connection_of old.table) (one_number conn q one)
+          ∙ sym was ∙ ap (connection_of old.table) (eqb-true conn q one)
       by false two = set q ∙ ap (λ t. cond t (Some now) (connection_of old.table q)) two
 
   as_before : ((q : ℕ) → has new.waiting q ≡ has old.waiting q)
@@ -138,7 +135,7 @@ module _ {W : Type 0} (conn : ℕ) (old new : Connections W) where
       by : (t : Bool) → nat_eq conn q ≡ t
           → cond (nat_eq conn q) (has old.waiting conn) (has old.waiting q) ≡ has old.waiting q
       by true one = ap (λ t. cond t (has old.waiting conn) (has old.waiting q)) one
-          ∙ ap (has old.waiting) (one_number conn q one)
+          ∙ ap (has old.waiting) (eqb-true conn q one)
       by false two = ap (λ t. cond t (has old.waiting conn) (has old.waiting q)) two
 
   -- bytes wait behind others: it is noted, or the turn is about to write to it
@@ -299,8 +296,8 @@ module _ {W : Type 0} (conn : ℕ) (old new : Connections W) where
           (record { noted_is = waiting conn ∙ is.noted_is ∙ ap has_some_at none; not_done = refl })
 
       by : (q : ℕ) (t : Bool) → nat_eq conn q ≡ t → IsMarkedAt q false old → IsMarkedAt q false mid
-      by q true one is = subst (λ p. IsMarkedAt p false mid) (one_number conn q one)
-          (at (subst (λ p. IsMarkedAt p false old) (sym (one_number conn q one)) is))
+      by q true one is = subst (λ p. IsMarkedAt p false mid) (eqb-true conn q one)
+          (at (subst (λ p. IsMarkedAt p false old) (sym (eqb-true conn q one)) is))
       by q false two is = marked_as false (connection_of old.table q) (connection_of mid.table q)
           (has old.waiting q) (has mid.waiting q)
           (set_other (connection_of old.table) (connection_of mid.table) conn

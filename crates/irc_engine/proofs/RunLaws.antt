@@ -9,6 +9,9 @@ use Rattle.std.proofs.Math.Seq.{take-add}
 use Rattle.std.proofs.lemmas.List.{take-append-le, take-append-drop, length-take}
 use Rattle.std.proofs.lemmas.List.Folds.{drop_split}
 use Rattle.std.proofs.lemmas.List.Elements.{filter-append}
+use Rattle.std.proofs.Math.Bool.{or-false, and-false, and-true}
+use Rattle.std.proofs.lemmas.Bool.{or_parts, eq-eqb, eqb-true}
+use Rattle.irc_names.specs.Lemmas.PlainFacts.{and_not}
 use Rattle.irc_outbox.specs.declared.wire.Got.{Got}
 use Rattle.irc_outbox.specs.declared.wire.Got.TheVariants.{Bytes, Later, End}
 use Rattle.irc_outbox.specs.declared.wire.IoFault.{IoFault}
@@ -46,12 +49,10 @@ use Rattle.irc_engine.specs.Loops.Connections.{lost_by, Carries, Loses}
 use Rattle.irc_engine.specs.Loops.Moments.{came, passed_on}
 use Rattle.irc_engine.proofs.EachConnection.{adds_none, adds_both, at_once, set_here, set_other}
 use Rattle.irc_engine.proofs.EachConnection.{close_elsewhere, last_close}
-use Rattle.irc_engine.proofs.TableLaws.{one_number, nat_eq-refl}
 use Rattle.irc_engine.proofs.KindLaws.{kind_kept, kind_of_lost, some_lost}
 use Rattle.arrayvec.specs.ArrayVec.{ArrayVec}
 use Rattle.irc_engine.specs.Lemmas.CarryingLaws.{is_closed_by-append, IsElsewhere, elsewhere_both}
 use Rattle.irc_engine.specs.Lemmas.CarryingLaws.{fate_on, same_fate, untouched_fate, nothing_owed}
-use Rattle.irc_engine.specs.Lemmas.CarryingLaws.{still}
 
 pub on_ok : {E : Type 0} (result : Result (Unit {0}) E) (P Q : Type 0) → (P → Q) → OnOk result P
     → OnOk result Q
@@ -84,10 +85,6 @@ asked_on server_of handles old mid new (event ∷ a) b x y one other = record {
   rest_is = asked_on server_of handles one.between mid new a b one.more y one.rest_is other;
 }
 
-either_false : (a b : Bool) → (a || b) ≡ false → (a ≡ false) × (b ≡ false)
-either_false true b is = cc is
-either_false false b is = (refl, is)
-
 -- what the server is told of one connection, in two stretches
 tells_on : (conn : ℕ) (was mid now : ConnectionState) (a b : List Event) (x y : List Sent)
     → TellsServer conn was a x mid → TellsServer conn mid b y now
@@ -98,7 +95,7 @@ tells_on conn was mid now a b x y one other = λ apart.
     record {
       at_most = omega (arith, first.at_most, then.at_most, times_gone-append conn a b);
       unless_closed = λ is_open.
-          let parts = either_false (is_closed_by conn x) (is_closed_by conn y)
+          let parts = or_parts (is_closed_by conn x) (is_closed_by conn y)
           (sym (is_closed_by-append conn x y) ∙ is_open) in
           omega (
             arith,
@@ -125,10 +122,6 @@ fewer : (b c : Bool) → 0 + one_if (b && not c) ≤ one_if b
 fewer true true = omega arith
 fewer true false = omega arith
 fewer false c = omega arith
-
-and_true : (b : Bool) → (b && true) ≡ b
-and_true true = refl
-and_true false = refl
 
 known_none : (l c : Bool) → (((l || false) && not c) || false) ≡ ((l || false) && not c)
 known_none true true = refl
@@ -170,10 +163,6 @@ known_after conn (Some old) was calls outs None now passed =
     ap (λ t. t || false) passed.lost_is
     ∙ known_left (is_some was) (is_some old.framer) (is_closed_by conn outs)
 
-never_both : (b : Bool) → (b && false) ≡ false
-never_both true = refl
-never_both false = refl
-
 apart_some : (l o c : Bool) → (l && o) ≡ false
     → (((l || (o && false)) && not c) && (o && not c)) ≡ false
 apart_some true true c is = cc is
@@ -186,7 +175,7 @@ apart_after : (conn : ℕ) (old : Option Connection) (was : Option ConnectionKin
     (calls : List Call) (outs : List Sent) (new : Option Connection) (now : Option ConnectionKind)
     → Passage conn old was calls outs new now → (is_some was && is_open_at old) ≡ false
     → (is_some now && is_open_at new) ≡ false
-apart_after conn old was calls outs None now passed apart = never_both (is_some now)
+apart_after conn old was calls outs None now passed apart = and-false (is_some now)
 apart_after conn None was calls outs (Some new) now passed apart = absurd passed.fate
 apart_after conn (Some old) was calls outs (Some new) now passed apart =
     ap (λ t. t && is_some new.framer) passed.lost_is
@@ -206,7 +195,7 @@ tells_passage conn old was calls outs new now passed = λ apart. record {
   unless_closed = λ is_open.
       let same : one_if (is_some now || is_open_at new) ≡ one_if (is_some was || is_open_at old) =
       ap one_if (known ∙ ap (λ c. (is_some was || is_open_at old) && not c) is_open
-      ∙ and_true (is_some was || is_open_at old)) in
+      ∙ and-true (is_some was || is_open_at old)) in
       omega (arith, same);
   apart = apart_after conn old was calls outs new now passed apart;
 }
@@ -214,10 +203,6 @@ tells_passage conn old was calls outs new now passed = λ apart. record {
     known : (is_some now || is_open_at new)
         ≡ ((is_some was || is_open_at old) && not (is_closed_by conn outs))
     known = known_after conn old was calls outs new now passed
-
-or_false : (b : Bool) → (b || false) ≡ b
-or_false true = refl
-or_false false = refl
 
 -- an open connection is lost
 lost_now : (q : ℕ) (l o t p : Bool) (s : Option Connection) → t ≡ true → o ≡ true
@@ -434,7 +419,7 @@ fate_of_one : (conn : ℕ) (old new : ℕ → Option Connection) (calls : List C
 fate_of_one conn old new calls outs same apart here q = by (nat_eq conn q) refl
   where
     by : (t : Bool) → nat_eq conn q ≡ t → Fate q (old q) calls outs (new q)
-    by true one = subst (λ p. Fate p (old p) calls outs (new p)) (one_number conn q one) here
+    by true one = subst (λ p. Fate p (old p) calls outs (new p)) (eqb-true conn q one) here
     by false two = subst (λ (s : Option Connection). Fate q (old q) calls outs s)
         (sym (same q two)) (untouched_fate q calls outs (apart q two) (old q))
 
@@ -487,8 +472,8 @@ cut_here : (conn room : ℕ) (answer : Result Got IoFault) (bytes : List ℕ) �
     → is_cut_off conn (reads conn room answer bytes ∷ closes conn ∷ []) ≡ true
 cut_here conn room (Ok (Bytes m)) bytes is = cc is
 cut_here conn room (Ok Later) bytes is = cc is
-cut_here conn room (Ok End) bytes is = ap (λ t. t || false) (nat_eq-refl conn)
-cut_here conn room (Err fault) bytes is = ap (λ t. t || false) (nat_eq-refl conn)
+cut_here conn room (Ok End) bytes is = ap (λ t. t || false) (eq-eqb conn conn refl)
+cut_here conn room (Err fault) bytes is = ap (λ t. t || false) (eq-eqb conn conn refl)
 
 module _ {W M : Type 0} {server_of : M → Option View} {handles : Handles M}
     (is_after : W → List Call → Type 0) where
@@ -706,7 +691,7 @@ module _ {W M : Type 0} {server_of : M → Option View} {handles : Handles M}
         (begun_at (new.connections q))) (at q) (ran.hears q));
     tells = λ q. gone_of kind conn q (nat_eq conn q) (is_some (lost_at old.lost q))
         (is_open_at (connection_of old.table q)) ran.events ran.outs (standing_of q new) refl
-        (λ one. ap (λ p. is_some (lost_at old.lost p)) (sym (one_number conn q one))
+        (λ one. ap (λ p. is_some (lost_at old.lost p)) (sym (eqb-true conn q one))
         ∙ ap is_some as_lost)
         (subst (λ (l : Bool). TellsServer q (record {
           lost = l;
@@ -831,7 +816,7 @@ module _ {W M : Type 0} {server_of : M → Option View} {handles : Handles M}
           (kind_of_lost (connection_of old.table q) (lost_at old.lost q) (lost_at new.lost q)
           (nat_eq conn q)
           (lost_as q ∙ ap (λ p. lost_by (nat_eq conn q) (connection_of old.table p)
-          (lost_at old.lost q)) (one_number conn q one)))
+          (lost_at old.lost q)) (eqb-true conn q one)))
       kind_cut q false two =
           kind_kept (connection_of old.table q) (connection_of new.table q) (lost_at old.lost q)
           (lost_at new.lost q)
@@ -857,13 +842,13 @@ module _ {W M : Type 0} {server_of : M → Option View} {handles : Handles M}
           (lost_now q (is_some (lost_at old.lost q)) (is_open_at (connection_of old.table q))
           (nat_eq conn q) (is_open_at (connection_of old.table conn))
           (connection_of old.table q) one
-          (ap (λ p. is_open_at (connection_of old.table p)) (sym (one_number conn q one))
+          (ap (λ p. is_open_at (connection_of old.table p)) (sym (eqb-true conn q one))
           ∙ is_open) is_open))
       tells_cut q false two =
           tells_as q (standing_of q (at_connections server journal size old))
           (standing_of q (at_connections server journal later new))
           (lost_is q ∙ ap (λ t. is_some (lost_at old.lost q) || (t && is_open_at
-          (connection_of old.table conn))) two ∙ or_false (is_some (lost_at old.lost q)))
+          (connection_of old.table conn))) two ∙ or-false (is_some (lost_at old.lost q)))
           (ap is_open_at (set q)
           ∙ ap (λ t. is_open_at (cond t None (connection_of old.table q))) two)
 
@@ -922,7 +907,7 @@ module _ {W M : Type 0} {server_of : M → Option View} {handles : Handles M}
                   ∙ sym (ap (λ (s : Connection). s.outbox.bytes) so.is);
               same_room = ap (λ (s : Connection). s.outbox.room) so.is;
               still_open = ap (λ (s : Connection). is_some s.framer) so.is ∙ sym (ap is_some so.was)
-                  ∙ still (is_some connection.framer) false refl;
+                  ∙ and_not (is_some connection.framer) false refl;
               never = refl;
               never_cut = refl;
             }))) q)
@@ -968,10 +953,10 @@ module _ {W M : Type 0} {server_of : M → Option View} {handles : Handles M}
           kind_as : (q : ℕ) (t : Bool) → nat_eq conn q ≡ t
               → kind_at (connection_of mid.table q) ≡ kind_at (connection_of old.table q)
           kind_as q true one =
-              ap (λ p. kind_at (connection_of mid.table p)) (sym (one_number conn q one))
+              ap (λ p. kind_at (connection_of mid.table p)) (sym (eqb-true conn q one))
               ∙ ap kind_at is_now ∙ ap (λ (s : Connection). Some s.kind) so.is
               ∙ sym (ap kind_at was)
-              ∙ ap (λ p. kind_at (connection_of old.table p)) (one_number conn q one)
+              ∙ ap (λ p. kind_at (connection_of old.table p)) (eqb-true conn q one)
           kind_as q false two = ap kind_at (set_other (connection_of old.table)
               (connection_of mid.table) conn (Some now) set q two)
 
@@ -984,11 +969,11 @@ module _ {W M : Type 0} {server_of : M → Option View} {handles : Handles M}
           open_as : (q : ℕ) (t : Bool) → nat_eq conn q ≡ t
               → is_open_at (connection_of mid.table q) ≡ is_open_at (connection_of old.table q)
           open_as q true one =
-              ap (λ p. is_open_at (connection_of mid.table p)) (sym (one_number conn q one))
+              ap (λ p. is_open_at (connection_of mid.table p)) (sym (eqb-true conn q one))
               ∙ ap is_open_at is_now ∙ ap (λ (s : Connection). is_some s.framer) so.is
               ∙ sym (ap is_some so.was)
               ∙ sym (ap is_open_at was)
-              ∙ ap (λ p. is_open_at (connection_of old.table p)) (one_number conn q one)
+              ∙ ap (λ p. is_open_at (connection_of old.table p)) (eqb-true conn q one)
           open_as q false two = ap is_open_at (set_other (connection_of old.table)
               (connection_of mid.table) conn (Some now) set q two)
 
@@ -1008,7 +993,7 @@ module _ {W M : Type 0} {server_of : M → Option View} {handles : Handles M}
               subst (λ p. Hears (begun_at (connection_of old.table p))
               (only_of conn (take used piece) p) (lines_by p (passed_on kind conn line))
               (begun_at (connection_of mid.table p)))
-              (one_number conn q one)
+              (eqb-true conn q one)
               (subst (λ (s : Option Connection). Hears (begun_at s) (only_of conn
               (take used piece) conn) (lines_by conn (passed_on kind conn line))
               (begun_at (connection_of mid.table conn))) (sym was)
@@ -1075,7 +1060,7 @@ module _ {W M : Type 0} {server_of : M → Option View} {handles : Handles M}
               → Hears (begun_at (connection_of old.table q)) (only_of conn bytes q) []
               (begun_at (connection_of old.table q))
           deaf q true one = hears_deaf (only_of conn bytes q) (begun_at (connection_of old.table q))
-              (ap (λ p. begun_at (connection_of old.table p)) (sym (one_number conn q one))
+              (ap (λ p. begun_at (connection_of old.table p)) (sym (eqb-true conn q one))
               ∙ closed)
           deaf q false two = subst (λ (bs : List ℕ). Hears
               (begun_at (connection_of old.table q)) bs [] (begun_at (connection_of old.table q)))
@@ -1088,7 +1073,7 @@ module _ {W M : Type 0} {server_of : M → Option View} {handles : Handles M}
           → connection_of new.table q ≡ connection_of old.table q
       as_before q connection now true one was now_is set =
           set ∙ ap (λ t. cond t (Some now) (connection_of old.table q)) one ∙ ap Some now_is
-          ∙ sym was ∙ ap (λ p. connection_of old.table p) (one_number conn q one)
+          ∙ sym was ∙ ap (λ p. connection_of old.table p) (eqb-true conn q one)
       as_before q connection now false two was now_is set =
           set ∙ ap (λ t. cond t (Some now) (connection_of old.table q)) two
 

@@ -9,6 +9,7 @@ use Rattle.std.specs.List.{slice_get}
 use Rattle.std.specs.HashMap.{get, get_by, hash_map_len, UpdatesBy}
 use Rattle.std.proofs.lemmas.Bool.{eq-eqb, eqb-true}
 use Rattle.std.proofs.lemmas.List.Sums.{sum_by-cons}
+use Rattle.std.proofs.lemmas.Option.{slice_get_within}
 use Rattle.irc_outbox.specs.declared.outbox.Overflow.{Overflow}
 use Rattle.irc_engine.specs.declared.connection_table.Pushed.{Pushed}
 use Rattle.irc_engine.specs.declared.connection_table.Pushed.TheVariants.{First, More}
@@ -18,12 +19,6 @@ use Rattle.irc_engine.specs.Loops.Tables.{connection_count}
 use Rattle.irc_engine.specs.Moments.{connection_at, connection_of}
 use Rattle.irc_engine.specs.Loops.Tables.{IsPushedAt, IsQueued, IsSet, Through, at_connection}
 use Rattle.irc_engine.specs.Loops.Tables.{no_connection, Within, in_none, in_connection}
-
-pub one_number : (a b : ℕ) → nat_eq a b ≡ true → a ≡ b
-one_number a b same = eqb-true a b same
-
-pub nat_eq-refl : (a : ℕ) → nat_eq a a ≡ true
-nat_eq-refl a = eq-eqb a a refl
 
 -- numbers are one by their order just where they are equal
 pub by_order : (a b : ℕ) → is_eq (nat_cmp a b) ≡ nat_eq a b
@@ -35,7 +30,7 @@ by_order a b = by (is_eq (nat_cmp a b)) refl (nat_eq a b) refl
     by true e false f =
         sym (eq-eqb a b (nat_cmp-IsAntisymmetric a b ((Equal-is (nat_cmp a b)).0 e))) ∙ f
     by false e true f =
-        sym e ∙ ap (λ n. is_eq (nat_cmp n b)) (one_number a b f)
+        sym e ∙ ap (λ n. is_eq (nat_cmp n b)) (eqb-true a b f)
         ∙ (eq_by_cmp_equiv nat_cmp_total).refl b
 
 pub set_at : {X : Type 0} (f : ℕ → X) (now : X) (conn q : ℕ)
@@ -62,8 +57,8 @@ at_place : {X : Type 0} (f g : ℕ → X) (i : ℕ) (x : X) → f i ≡ x
 at_place f g i x here there q = by (nat_eq i q) refl
   where
     by : (t : Bool) → nat_eq i q ≡ t → f q ≡ cond t x (g q)
-    by true is = sym (ap f (one_number i q is)) ∙ here
-    by false is = there q (λ same. let never : true ≡ false = sym (nat_eq-refl i)
+    by true is = sym (ap f (eqb-true i q is)) ∙ here
+    by false is = there q (λ same. let never : true ≡ false = sym (eq-eqb i i refl)
         ∙ ap (nat_eq i) same ∙ is in cc never)
 
 slot_set : {X : Type 0} (xs : List X) (i q : ℕ) (x : X) → i < length xs
@@ -103,7 +98,7 @@ sparse_set old new conn slot behind dense sparse q =
     by : (t : Bool) → nat_eq conn q ≡ t → connection_at (slice_get old.dense.items q)
         (cond t slot (get nat_eq old.sparse q)) ≡ cond t slot (connection_of old q)
     by true is = sym (ap (λ s. connection_at s slot)
-        (subst (λ n. None ≡ slice_get old.dense.items n) (one_number conn q is) behind))
+        (subst (λ n. None ≡ slice_get old.dense.items n) (eqb-true conn q is) behind))
     by false is = refl
 
 -- how many are dense, once one of them has changed
@@ -126,11 +121,6 @@ slots_counted (x ∷ xs) (suc i) slot was is =
       count_cons x xs,
       slots_counted xs i slot was is,
     )
-
-slot_within : {X : Type 0} (xs : List X) (i : ℕ) (x : X) → slice_get xs i ≡ Some x → i < length xs
-slot_within [] i x is = cc is
-slot_within (y ∷ xs) zero x is = omega arith
-slot_within (y ∷ xs) (suc i) x is = omega (arith, slot_within xs i x is)
 
 -- a place that is there, and one that is not
 pub found_slot : {X : Type 0} (xs : List X) (i : ℕ) (x : X) → i < length xs → x ≡ get_or xs i x
@@ -157,11 +147,12 @@ module _ (conn : ℕ) (P : Connection → Connection → Type 0) (Q : Type 0)
 
       set : IsSet (connection_of old) conn now (connection_of new)
       set =
-          dense_set old new conn now (slot_within old.dense.items conn slot (sym was)) dense sparse
+          dense_set old new conn now
+              (slice_get_within old.dense.items conn slot (sym was)) dense sparse
 
       same : now ≡ None → connection_of old conn ≡ None → (q : ℕ) (t : Bool) → nat_eq conn q ≡ t
           → cond t now (connection_of old q) ≡ connection_of old q
-      same nothing none q true e = nothing ∙ sym none ∙ ap (connection_of old) (one_number conn q e)
+      same nothing none q true e = nothing ∙ sym none ∙ ap (connection_of old) (eqb-true conn q e)
       same nothing none q false e = refl
 
       by : Within P Q slot now → Through conn P Q old new

@@ -2,6 +2,7 @@
 use Rattle.std.proofs.Common.{◌≡◌, ℕ, ◌≤◌, Bool, true, false, cond, nat_eq, is_some, Option, Some}
 use Rattle.std.proofs.Common.{None, Result, Ok, Err, List, [], ◌∷◌, ◌++◌, refl, sym, ◌∙◌, ap, subst}
 use Rattle.std.proofs.Common.{append-nil, arith}
+use Rattle.irc_names.specs.Lemmas.PlainFacts.{and_not}
 use Rattle.irc_outbox.specs.declared.wire.IoFault.{IoFault}
 use Rattle.irc_outbox.specs.Calls.{Call, writes, closes, bytes_taken, is_some_bytes}
 use Rattle.irc_outbox.specs.Outboxes.{IsFront}
@@ -17,7 +18,7 @@ use Rattle.irc_engine.proofs.EachConnection.{write_elsewhere, write_drops}
 use Rattle.irc_engine.proofs.ConnectionSteps.{carries_none, carries_on, one_connection}
 use Rattle.irc_engine.proofs.ConnectionSteps.{ended_or_waits}
 use Rattle.irc_engine.proofs.KindLaws.{kind_kept}
-use Rattle.irc_engine.specs.Lemmas.CarryingLaws.{nothing_owed, still, kept_some}
+use Rattle.irc_engine.specs.Lemmas.CarryingLaws.{nothing_owed, kept_some}
 use Rattle.irc_engine.specs.Lemmas.HearingLaws.{hears_same}
 use Rattle.irc_engine.proofs.MarkLaws.{unmarks_gone, unmarks_written}
 
@@ -68,7 +69,7 @@ module _ {W : Type 0} (is_after : W → List Call → Type 0) (conn : ℕ) (old 
                       (sym (at_once conn (bytes_taken w.front (Ok n)) [])));
                   same_room = w.same_room;
                   still_open = ap (λ (s : Connection). is_some s.framer) so.same
-                      ∙ still (is_some connection.framer) false refl;
+                      ∙ and_not (is_some connection.framer) false refl;
                   never = refl;
                   never_cut = refl;
                 };

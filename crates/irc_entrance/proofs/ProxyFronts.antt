@@ -1,22 +1,15 @@
 -- Bytes that begin and end as a mark does.
-use Rattle.std.proofs.Common.{◌≡◌, ◌∙◌, sym, ap, subst, refl, ℕ, ◌-◌, ◌≤◌, Bool}
+use Rattle.std.proofs.Common.{◌≡◌, ◌∙◌, sym, ap, subst, refl, ℕ, ◌-◌, ◌≤◌}
 use Rattle.std.proofs.Common.{true, false, ◌&&◌, ◌||◌, nat_eq, List}
 use Rattle.std.proofs.Common.{[], ◌∷◌, ◌++◌, length, take, drop}
 use Rattle.std.proofs.Common.{arith, length-append, length-drop, length-take}
 use Rattle.std.proofs.lemmas.Bool.{eqb-true}
 use Rattle.std.proofs.lemmas.List.{drop-append-le}
 use Rattle.std.specs.List.{starts_with}
+use Rattle.std.specs.Cmp.{first_so}
 use Rattle.irc_entrance.specs.ProxyLines.{ends_in, line_end}
 use Rattle.irc_entrance.specs.Proxying.{agrees}
 use lib.Pointwise.{pointwise, pointwise_long}
-
-pub left_true : (a b : Bool) → a && b ≡ true → a ≡ true
-left_true true b both = refl
-left_true false b both = both
-
-pub right_true : (a b : Bool) → a && b ≡ true → b ≡ true
-right_true true b both = both
-right_true false b both = cc both
 
 -- of two that agree the first bytes are the same
 pub first_byte : (b : ℕ) (bytes : List ℕ) (m : ℕ) (mark : List ℕ)
@@ -25,8 +18,8 @@ first_byte b bytes m mark agree =
     elim (starts_with nat_eq (b ∷ bytes) (m ∷ mark))
     as (λ t. starts_with nat_eq (b ∷ bytes) (m ∷ mark) ≡ t
     → t || starts_with nat_eq (m ∷ mark) (b ∷ bytes) ≡ true → b ≡ m) [
-      | true ↦ λ same any. sym (eqb-true m b (left_true _ _ same))
-      | false ↦ λ other same. eqb-true b m (left_true _ _ same)
+      | true ↦ λ same any. sym (eqb-true m b (first_so _ _ same))
+      | false ↦ λ other same. eqb-true b m (first_so _ _ same)
     ] refl agree
 
 -- what begins so is as long at least
@@ -55,5 +48,5 @@ one_before_end bytes x some ends =
     by : (last : List ℕ) → length last ≡ 1 → pointwise nat_eq line_end (last ++ x ∷ []) ≡ true
         → pointwise nat_eq (13 ∷ []) last ≡ true
     by [] long same = cc long
-    by (y ∷ []) long same = ap (λ b. b && true) (left_true _ _ same)
+    by (y ∷ []) long same = ap (λ b. b && true) (first_so _ _ same)
     by (y ∷ z ∷ more) long same = cc long

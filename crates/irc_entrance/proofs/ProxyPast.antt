@@ -10,6 +10,7 @@ use Rattle.std.proofs.lemmas.List.Splits.{length-slice_split}
 use Rattle.std.proofs.lemmas.List.Sums.{count_by-le-length}
 use Rattle.std.specs.List.{starts_with}
 use Rattle.std.specs.declared.net.ip_addr.IpAddr.{IpAddr}
+use Rattle.std.specs.Cmp.{second_so, first_so}
 use Rattle.irc_entrance.specs.ProxyBytes.{IsBytes, behind, is_taken, is_whole, more_of_bytes}
 use Rattle.irc_entrance.specs.ProxyLaws.{HeadersAreTaken, NothingBehindIsWanted}
 use Rattle.irc_entrance.specs.ProxyLines.{AreEnds, IsLine, IsNamed, IsSource, ends_in, family_of}
@@ -24,14 +25,13 @@ use Rattle.irc_entrance.specs.declared.proxy_line.LineFamily.TheVariants.{Tcp4, 
 use Rattle.irc_entrance.specs.declared.proxy_line.LineFamily.TheVariants.{Other}
 use Rattle.irc_entrance.specs.declared.proxy_header.HeaderKind.{HeaderKind}
 use Rattle.irc_entrance.specs.declared.proxy_header.HeaderKind.TheVariants.{Line, Bytes, Neither}
-use Rattle.irc_entrance.proofs.ProxyFronts.{first_byte, front_fits, left_true, one_before_end}
-use Rattle.irc_entrance.proofs.ProxyFronts.{right_true}
+use Rattle.irc_entrance.proofs.ProxyFronts.{first_byte, front_fits, one_before_end}
 use lib.Pointwise.{pointwise_long}
 
 -- ---- version 2
 
 whole_length : (all : List ℕ) → is_whole all ≡ true → length all ≡ 16 + behind all
-whole_length all whole = eqb-true _ _ (right_true (is_taken all) _ whole)
+whole_length all whole = eqb-true _ _ (second_so (is_taken all) _ whole)
 
 -- how many follow is said by the first 16
 behind_same : (bytes rest : List ℕ) → 16 ≤ length bytes → behind (bytes ++ rest) ≡ behind bytes
@@ -143,7 +143,7 @@ line_not_past bytes rest named is =
           (min (if ends_in (13 ∷ []) bytes then 1 else 2) (107 - length bytes)) ≤ length rest) [
             | true ↦ λ ended. omega arith
             | false ↦ λ unended. unfinished bytes rest (ltb-false _ _ long)
-                (left_true _ _ is.is_line) unended
+                (first_so _ _ is.is_line) unended
           ] refl
     ] refl
 

@@ -4,11 +4,12 @@ use Rattle.std.proofs.Common.{None, List, [], ◌∷◌, length, map, count_by, 
 use Rattle.std.proofs.Common.{arith, inl, inr}
 use Rattle.std.proofs.lemmas.List.{length-map}
 use Rattle.std.proofs.lemmas.List.Sums.{sum_by-cons}
-use Rattle.std.specs.Cmp.{Equal-is, eq_by_cmp_equiv, nat_cmp_total}
+use Rattle.std.specs.Cmp.{Equal-is, eq_by_cmp_equiv, nat_cmp_total, both_ways}
 use Rattle.std.specs.FinMap.{FinMap, entries, from_entries, get, get-empty, get-insert, len}
 use Rattle.std.specs.FinMap.{len-empty, len-entries, len-insert, nat_cmp-IsAntisymmetric, same_map}
 use Rattle.std.specs.List.{list_any}
 use Rattle.std.specs.Ordering.{eq_by_cmp, nat_cmp}
+use Rattle.std.proofs.lemmas.Bool.{or_right}
 use Rattle.irc_relay.specs.Distances.{EndsAreAmong, IsAmong}
 use Rattle.irc_relay.specs.Links.{Name, same, Link, toward, part, AreLinked, HasEnds, IsForest}
 use Rattle.irc_relay.specs.Lemmas.TellingNames.{Telling, alike, unlike, tell}
@@ -17,7 +18,6 @@ use Rattle.irc_relay.specs.Lemmas.NextHops.{toward_linked}
 use Rattle.irc_routes.specs.declared.server_row.ServerRow.{ServerRow}
 use Rattle.irc_routes.specs.Known.{Known, link_key, links_of, others}
 use Rattle.irc_routes.specs.Lemmas.TableRows.{row_passes, some_stands}
-use Rattle.irc_routes.specs.Lemmas.DistinctLinks.{both_so}
 use Rattle.irc_world.specs.World.{has_end}
 use Rattle.irc_follow.specs.Tree.{Shape, index_in}
 use Rattle.irc_follow.specs.SideState.{ItemSetting}
@@ -78,10 +78,6 @@ record HasNeighbour (names : List Name) (t : Name) (links : List Link) (k : ℕ)
   pub linked : AreLinked links t u
   pub is : k ≡ index_in names u
 
-or_second : (a b : Bool) → b ≡ true → (a || b) ≡ true
-or_second true b is = refl
-or_second false b is = is
-
 module _ (names : List Name) (t : Name) where
   abbrev with_number : (near far : Bool) → Link → List ℕ → List ℕ
   with_number true far l rest = index_in names l.far ∷ rest
@@ -128,9 +124,9 @@ module _ (names : List Name) (t : Name) where
   in_rest : (a b : Bool) (l : Link) (rest : List ℕ) (k : ℕ) → list_any (is_it k) rest ≡ true
       → list_any (is_it k) (with_number a b l rest) ≡ true
   in_rest true b l rest k there =
-      or_second (is_it k (index_in names l.far)) (list_any (is_it k) rest) there
+      or_right (is_it k (index_in names l.far)) (list_any (is_it k) rest) there
   in_rest false true l rest k there =
-      or_second (is_it k (index_in names l.near)) (list_any (is_it k) rest) there
+      or_right (is_it k (index_in names l.near)) (list_any (is_it k) rest) there
   in_rest false false l rest k there = there
 
   first_it : (k n : ℕ) (rest : List ℕ) → n ≡ k → (is_it k n || list_any (is_it k) rest) ≡ true
@@ -261,5 +257,5 @@ module _ (s : ItemSetting) (links : List Link) (routes : Name → Known) (t : Na
       length-map (entries (set_of in_routes)) (λ e. e.0)
       ∙ sym (len-entries (set_of in_routes))
       ∙ ap len (one_set in_routes (numbers s.names t links)
-      (λ q. both_so _ _ (is_link q) (is_in_routes q)))
+      (λ q. both_ways _ _ (is_link q) (is_in_routes q)))
       ∙ as_many s.names t links forest ends

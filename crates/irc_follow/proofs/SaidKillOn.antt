@@ -4,6 +4,7 @@ use Rattle.std.proofs.Common.{◌∷◌, ◌++◌, ◌&&◌, codes, map, lit≤,
 use Rattle.std.proofs.Common.{option_map, if◌then◌else◌}
 use Rattle.std.specs.List.{flat_map}
 use Rattle.std.specs.Option.{option_map_or}
+use Rattle.std.proofs.lemmas.Bool.{and_from}
 use Rattle.irc_line.specs.Messages.{IsPlain, Written, line_text, message_of}
 use Rattle.irc_names.specs.Fold.{key}
 use Rattle.irc_names.specs.Names.{IsNick, IsServer, is_nick, is_server}
@@ -37,7 +38,7 @@ use Rattle.irc_follow.specs.Laws.{GoesOn, SaidKillGoesOn}
 use Rattle.irc_follow.specs.Says.{neighbour_served, lines_on, machine, Says, IsDoableKill}
 use Rattle.irc_follow.specs.Lemmas.CarriedLines.{kill_carried}
 use Rattle.irc_follow.specs.Lemmas.LinesOnLinks.{lines_behind, none_to_killed, none_to_viewers}
-use Rattle.irc_follow.specs.Lemmas.Neighbours.{IsKnownOfLines, both}
+use Rattle.irc_follow.specs.Lemmas.Neighbours.{IsKnownOfLines}
 use Rattle.irc_follow.specs.Lemmas.Neighbours as beside
 use Rattle.irc_follow.specs.Lemmas.SaidDeed.{deed_served, there}
 use Rattle.irc_follow.specs.Lemmas.SaidEffect.{rooms_alike}
@@ -129,11 +130,11 @@ module _ (known : IsKnownOfLines) (server nick : List ℕ) (s : ItemSetting) (p 
       all_so true (may_come (beside.far_reader s p t u w view other takes next apart writer reader)
       server && true) (is_server server && is_nick nick)
       (killed server other.room nick) refl
-      (both (may_come
+      (and_from (may_come
       (beside.far_reader s p t u w view other takes next apart writer reader) server) true
       (beside.server_may_come s p t u w view other takes next apart writer reader server
       server_named behind) refl)
-      (both (is_server server) (is_nick nick) server_named nick_named)
+      (and_from (is_server server) (is_nick nick) server_named nick_named)
       ∙ ap (λ deeds. Ok (map a_deed deeds)) (killed_it server nick other.room stored_there)
 
   -- what its clients are told goes on no link

@@ -2,7 +2,7 @@
 use Rattle.std.proofs.Common.{◌≡◌, ◌≢◌, inl, inr, ℕ, Bool, true, false, not, ◌&&◌, ◌||◌, is_some}
 use Rattle.std.proofs.Common.{Option, Some, None, Ok, List, [], ◌∷◌, ◌++◌, codes, length, lit≤, map}
 use Rattle.std.proofs.Common.{refl, sym, ◌∙◌, ap, option_map, if◌then◌else◌}
-use Rattle.std.proofs.lemmas.Bool.{le-leb}
+use Rattle.std.proofs.lemmas.Bool.{le-leb, and_from, or_right}
 use Rattle.std.specs.FinMap.{get, keys}
 use Rattle.std.specs.List.{list_any, AllByRecursion}
 use Rattle.std.specs.Option.{option_map_or}
@@ -58,13 +58,13 @@ use Rattle.irc_follow.specs.Lemmas.CarriedLines.{topic_carried}
 use Rattle.irc_follow.specs.Lemmas.LinesOnLinks.{ends_by_all, none_by_all}
 use Rattle.irc_follow.specs.Lemmas.MemberLines.{AreNicks, all_new}
 use Rattle.irc_follow.proofs.SaidKillOn.{stored_named}
-use Rattle.irc_follow.specs.Lemmas.Neighbours.{IsKnownOfLines, both}
+use Rattle.irc_follow.specs.Lemmas.Neighbours.{IsKnownOfLines}
 use Rattle.irc_follow.specs.Lemmas.Neighbours as beside
 use Rattle.irc_follow.specs.Lemmas.SaidDeed.{deed_served}
 use Rattle.irc_follow.specs.Lemmas.SaidEffect.{far_is_another, rooms_alike}
 use Rattle.irc_follow.specs.Lemmas.ServerLines.{all_so, brought_some, members_plain, members_read}
 use Rattle.irc_follow.specs.Lemmas.ServerLines.{members_whole, modes_plain, modes_read, modes_whole}
-use Rattle.irc_follow.specs.Lemmas.ServerLines.{or_so, topic_plain, topic_read, topic_whole}
+use Rattle.irc_follow.specs.Lemmas.ServerLines.{topic_plain, topic_read, topic_whole}
 
 module _ (known : IsKnownOfLines) (s : ItemSetting) (p t u : Name) (w : of_side.SideState)
     (view other : View)
@@ -138,7 +138,7 @@ module _ (known : IsKnownOfLines) (s : ItemSetting) (p t u : Name) (w : of_side.
         (carried_no_nul text doable.by_server.told.carried) (lit≤ tt)
 
     known_there : is_known other.routes name ≡ true
-    known_there = or_so (is_itself other.routes name) (is_some (row_of other.routes name))
+    known_there = or_right (is_itself other.routes name) (is_some (row_of other.routes name))
         (sym (is_some_map (λ (r : ServerRow). r.link) (row_of other.routes name))
         ∙ ap is_some (beside.there_row s p t u w view other takes next apart writer reader name
         doable.can.known
@@ -151,12 +151,12 @@ module _ (known : IsKnownOfLines) (s : ItemSetting) (p t u : Name) (w : of_side.
         && (not (is_known other.routes name) || is_behind_link other.routes (number s t) name))
         (is_server server && (is_server name && is_known other.routes name)) (loses server name text
         ∷ []) (le-leb (length text) max_words doable.by_server.told.fits)
-        (both (may_come far_reader server) (not (is_known other.routes name)
+        (and_from (may_come far_reader server) (not (is_known other.routes name)
         || is_behind_link other.routes (number s t) name) comes
-        (or_so (not (is_known other.routes name)) (is_behind_link other.routes (number s t) name)
+        (or_right (not (is_known other.routes name)) (is_behind_link other.routes (number s t) name)
         (far_behind name doable.can.known doable.far)))
-        (both (is_server server) (is_server name && is_known other.routes name) server_named
-        (both (is_server name) (is_known other.routes name) name_named known_there))
+        (and_from (is_server server) (is_server name && is_known other.routes name) server_named
+        (and_from (is_server name) (is_known other.routes name) name_named known_there))
 
     loss_lines : lines_on (number s u) (neighbour_served s p view line).out ≡ line_text parts ∷ []
     unfolding told_by deed_told
@@ -183,7 +183,7 @@ module _ (known : IsKnownOfLines) (s : ItemSetting) (p t u : Name) (w : of_side.
       → list_any (home_passes far w.hall.room.users) folds ≡ true
   far_members [] none = absurd none
   far_members (fold ∷ folds) (inr later) =
-      or_so (home_passes far w.hall.room.users fold)
+      or_right (home_passes far w.hall.room.users fold)
       (list_any (home_passes far w.hall.room.users) folds) (far_members folds later)
   far_members (fold ∷ folds) (inl now) =
       ap (λ b. b || list_any (home_passes far w.hall.room.users) folds)

@@ -5,6 +5,7 @@ use Rattle.std.proofs.Common.{filter_map}
 use Rattle.std.specs.Option.{option_and_then, option_map_or, is_none}
 use Rattle.std.specs.List.{cons_option, list_all, list_any, AllByRecursion}
 use Rattle.std.specs.FinMap.{entries, entries_sorted, keys, retain_keys, get-entries}
+use Rattle.irc_names.specs.Lemmas.PlainFacts.{is_true}
 use Rattle.irc_names.specs.Tables.{row, each}
 use Rattle.irc_names.specs.TableLaws.{same_table, row-each}
 use Rattle.irc_channels.specs.declared.channel.Channel.{Channel}
@@ -14,7 +15,7 @@ use Rattle.irc_merge.specs.Merge.{clash, room_without}
 use Rattle.irc_merge.specs.Agreeing.{are_alike, agree}
 use Rattle.irc_merge.specs.Lemmas.Clashing.{clashing, channels_without}
 use Rattle.irc_merge.specs.Lemmas.Quitting.{among, thinned}
-use Rattle.irc_merge.specs.Lemmas.TableWords.{true_is, entries_all, entries_each, entries_kept}
+use Rattle.irc_merge.specs.Lemmas.TableWords.{entries_all, entries_each, entries_kept}
 use Rattle.irc_forest.specs.Loops.AsTheyAre.{agrees_on, alike_if_left, is_left, survives}
 
 -- ---- which channels are left
@@ -28,11 +29,6 @@ none_passes {X} p (e ∷ es) = by_test (p e) (none_passes p es)
         (map (λ e. e.0) (cond b (e ∷ filter p es) (filter p es))) ≡ not (b || list_any p es)
     by_test true rest = refl
     by_test false rest = rest
-
-pub any_mapped : {X Y : Type 0} (p : Y → Bool) (f : X → Y) (xs : List X)
-    → list_any p (map f xs) ≡ list_any (λ x. p (f x)) xs
-any_mapped p f [] = refl
-any_mapped p f (x ∷ xs) = ap (λ b. p (f x) || b) (any_mapped p f xs)
 
 any_alike : {X : Type 0} (p r : List ℕ × X → Bool) (es : List (List ℕ × X))
     → AllByRecursion (λ e. p e ≡ r e) es → list_any p es ≡ list_any r es
@@ -64,7 +60,7 @@ module _ (room other : Room) (well : IsWellFormed room) (fold : List ℕ) (chann
       entries_all (λ q flags. not (gone room other q) ≡ is_none (row other.users q))
       (entries channel.members)
       (λ q flags is. stays q (ap is_some (get-entries channel.members q ∙ is)))
-      (true_is _ (entries_sorted channel.members))
+      (is_true _ (entries_sorted channel.members))
 
   none_left : is_nil (keys (thin room other channel).members) ≡ not (is_left other channel)
   none_left =
@@ -151,7 +147,7 @@ module _ (one other : Room) (well_one : IsWellFormed one) (well_other : IsWellFo
       ∙ all_tested (entries one.channels)
       (entries_all (λ fold channel. IsSoundRow one.users fold channel) (entries one.channels)
       (λ fold channel is. well_one.channels_sound fold channel (get-entries one.channels fold ∙ is))
-      (true_is _ (entries_sorted one.channels)))
+      (is_true _ (entries_sorted one.channels)))
     where
       left_channels : (room_without one other).channels
           ≡ each (thinned (gone one other)) one.channels

@@ -2,6 +2,7 @@
 use Rattle.std.proofs.Common.{◌≡◌, ℕ, zero, suc, ◌+◌, ◌≤◌, min, Option, Some, None, List, [], ◌∷◌}
 use Rattle.std.proofs.Common.{refl, sym, ap, subst, ◌∙◌, arith}
 use Rattle.std.specs.Option.{option_and_then, option_map_or}
+use Rattle.std.proofs.Math.Nat.{min-le_right}
 use Rattle.irc_line.specs.Reading.{read_of}
 use Rattle.irc_stage.specs.View.{View}
 use Rattle.irc_server.specs.Served.{ReadEvent, link_says}
@@ -112,9 +113,6 @@ module _ (settings : DeliveryKeepsSettings) (stays : DeliveryStaysSound) where
       one : IsOneMore old.state new.state
       one = delivered_one from to old new is
 
-  at_most : (a b : ℕ) → min a b ≤ b
-  at_most a b = omega arith
-
   pub settling_keeps_sound : SettlingKeepsSound
   settling_keeps_sound zero old new none_yet few =
       record { sound = λ sound. sound; most = refl; taken = none old.state.taken few }
@@ -125,7 +123,7 @@ module _ (settings : DeliveryKeepsSettings) (stays : DeliveryStaysSound) where
       (then_one {between = mid} {direction = way} before _ is) few =
       let first = settling_keeps_sound count old mid before few in
       let last = delivery_keeps_sound way.from way.to mid new is (subst (λ n. n ≤ max_count)
-      (sym first.taken) (at_most (old.state.taken + count) max_count)) in
+      (sym first.taken) (min-le_right (old.state.taken + count) max_count)) in
       record {
         sound = λ sound. last.sound (first.sound sound);
         most = last.most ∙ first.most;

@@ -6,6 +6,7 @@ use Rattle.std.specs.FinMap.{empty, get, get-empty, retain_keys}
 use Rattle.std.specs.List.{list_any, slice_get, AllByRecursion}
 use Rattle.std.specs.Option.{option_and_then, option_map, option_map_or}
 use Rattle.std.specs.Ordering.{nat_cmp}
+use Rattle.std.proofs.Math.Bool.{and-not_self}
 use Rattle.irc_names.specs.Tables.{each, fold_cmp, row}
 use Rattle.irc_relay.specs.Distances.{IsAmong}
 use Rattle.irc_relay.specs.Following.{AllAlong}
@@ -123,12 +124,7 @@ module _ (world_holds : TakenMakeWorld) (side : SideAtRestIsSound) (net : Networ
       }
 
   none_both : (t x : Name) → (joined [] x t && not (same x t)) ≡ false
-  none_both t x = ap (λ b. b && not (same x t)) (one_part x t) ∙ by (same x t)
-    where
-      by : (b : Bool) → (b && not b) ≡ false
-      by true = refl
-      by false = refl
-
+  none_both t x = ap (λ b. b && not (same x t)) (one_part x t) ∙ and-not_self (same x t)
   right : AreRight s [] (routes_in net)
   right = record {
     named = λ t among. (there net new.set_up t among).named;

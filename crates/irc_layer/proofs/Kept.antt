@@ -3,6 +3,7 @@ use Rattle.std.proofs.Common.{◌≡◌, ℕ, Bool, true, false, ◌||◌, Optio
 use Rattle.std.proofs.Common.{refl, sym, ◌∙◌, ap, map, nat_eq, if◌then◌else◌}
 use Rattle.std.specs.List.{list_any}
 use Rattle.std.proofs.lemmas.List.Folds.{list_any-append}
+use Rattle.std.proofs.Math.Bool.{or-false}
 use Rattle.irc_batch.specs.Batches.{Sent, end_of, end_of_link, line_on, line_to}
 use Rattle.irc_pieces.specs.declared.count.Count.{Count}
 use Rattle.irc_pieces.specs.declared.count.Mark.{Mark}
@@ -16,10 +17,6 @@ use Rattle.irc_layer.specs.Ends.{Ends}
 use Rattle.irc_layer.specs.Putting.{all_put, body, count_at, count_before, count_out, ends_behind}
 use Rattle.irc_layer.specs.Putting.{is_echo, is_unspoken, line_put, one_put, out_by}
 use Rattle.irc_layer.specs.Putting.{piece_lines, piece_out, with_line_out}
-
-or_false : (b : Bool) → b ≡ (b || false)
-or_false true = refl
-or_false false = refl
 
 -- of a test that no line on a link passes
 module _ (test : Sent → Bool) (none : (link : ℕ) (line : List ℕ) → test (line_on link line) ≡ false)
@@ -82,10 +79,10 @@ module _ (test : Sent → Bool) (none : (link : ℕ) (line : List ℕ) → test 
     one_kept cause (line_on link line) outs ends =
         line_fails cause link (piece_lines link line outs) line (ends link)
         ∙ sym (none link line)
-    one_kept cause (line_to conn line) outs ends = sym (or_false (test (line_to conn line)))
-    one_kept cause (end_of conn) outs ends = sym (or_false (test (end_of conn)))
+    one_kept cause (line_to conn line) outs ends = sym (sym (or-false (test (line_to conn line))))
+    one_kept cause (end_of conn) outs ends = sym (sym (or-false (test (end_of conn))))
     one_kept cause (end_of_link link reason) outs ends =
-        sym (or_false (test (end_of_link link reason)))
+        sym (sym (or-false (test (end_of_link link reason))))
 
     pub all_kept : (cause : Cause) (outs : List Sent) (ends : Ends)
         → list_any test (all_put cause outs ends) ≡ list_any test outs

@@ -1,9 +1,10 @@
 -- What is known of the words of a line that was read: each stands in the line.
-use Rattle.std.proofs.Common.{◌≡◌, ℕ, ◌≤◌, ◌-◌, Bool, true, false, ◌||◌, ◌&&◌, Result, List, []}
+use Rattle.std.proofs.Common.{◌≡◌, ℕ, ◌≤◌, ◌-◌, true, false, ◌&&◌, Result, List, []}
 use Rattle.std.proofs.Common.{◌∷◌, ◌++◌, length, refl, sym, ◌∙◌, ap, subst, arith, length-append}
 use Rattle.std.specs.List.{list_any, AllByRecursion}
 use Rattle.std.specs.Cmp.{first_so, second_so}
 use Rattle.std.proofs.lemmas.List.Folds.{list_all-append}
+use Rattle.std.proofs.lemmas.Bool.{or_parts}
 use Rattle.irc_line.specs.declared.reading.LineFault.{LineFault}
 use Rattle.irc_line.specs.Limits.{max_parameters}
 use Rattle.irc_line.specs.Bytes.{is_nul, is_line_end, has_nul, colon}
@@ -16,16 +17,12 @@ use Rattle.irc_line.specs.Laws.{LinesAreCarried, WordsAreOfTheLine}
 use Rattle.irc_line.specs.Lemmas.CarriedBytes.{carried_byte, carried_no_nul}
 use Rattle.irc_line.proofs.LinesRead.{every_line_is_read}
 
-neither : (a b : Bool) → (a || b) ≡ false → (a ≡ false) × (b ≡ false)
-neither true b h = cc
-neither false b h = (refl, h)
-
 bytes_carried : (bytes : List ℕ) → has_nul bytes ≡ false → list_any is_line_end bytes ≡ false
     → IsCarried bytes
 bytes_carried [] no_nul no_end = refl
 bytes_carried (b ∷ bytes) no_nul no_end =
-    let nul = neither (is_nul b) (has_nul bytes) no_nul in
-    let end = neither (is_line_end b) (list_any is_line_end bytes) no_end in
+    let nul = or_parts (is_nul b) (has_nul bytes) no_nul in
+    let end = or_parts (is_line_end b) (list_any is_line_end bytes) no_end in
     ap (λ v. v && is_carried bytes) (carried_byte (is_nul b) (is_line_end b) nul.0 end.0)
     ∙ bytes_carried bytes nul.1 end.1
 

@@ -1,8 +1,9 @@
 -- A line is read in one way.
-use Rattle.std.proofs.Common.{◌≡◌, ◌≢◌, ℕ, ◌-◌, Bool, true, false, ◌||◌, ◌&&◌, not, Option, Some}
+use Rattle.std.proofs.Common.{◌≡◌, ◌≢◌, ℕ, ◌-◌, Bool, true, false, ◌||◌, not, Option, Some}
 use Rattle.std.proofs.Common.{None, Result, Ok, Err, List, [], ◌∷◌, ◌++◌, refl, sym, ◌∙◌, ap, subst}
 use Rattle.std.proofs.Common.{append-nil, arith}
 use Rattle.std.specs.List.{list_all}
+use Rattle.std.proofs.lemmas.Bool.{not-true, and_parts}
 use Rattle.irc_line.specs.declared.reading.LineFault.{LineFault}
 use Rattle.irc_line.specs.declared.reading.LineFault.TheVariants.{Empty, NoCommand, HasNul}
 use Rattle.irc_line.specs.Limits.{max_parameters}
@@ -11,10 +12,6 @@ use Rattle.irc_line.specs.Messages.{Parsed}
 use Rattle.irc_line.specs.Grammar.{is_word_byte, IsGap, HasNoSpace, EndsWord, ReadsParams, no_more}
 use Rattle.irc_line.specs.Grammar.{behind_colon, the_rest, one_word, CommandAt, Reads, plain}
 use Rattle.irc_line.specs.Grammar.{prefixed, IsPrefixAlone, IsReadAs}
-
-both : (a b : Bool) → (a && b) ≡ true → (a ≡ true) × (b ≡ true)
-both true b h = (refl, h)
-both false b h = cc h
 
 -- the longest front whose bytes pass is one
 record SameCut (a b x y : List ℕ) : Type 0 where
@@ -26,17 +23,17 @@ one_cut : (p : ℕ → Bool) (a b x y : List ℕ) → list_all p a ≡ true → 
 one_cut p [] [] x y a_all b_all x_not y_not same = record { front = refl; rest = same }
 one_cut p [] (b ∷ other) x y a_all b_all x_not y_not same =
     let first : p b ≡ false = ap (begins p) (sym same) ∙ x_not in
-    let passes : p b ≡ true = (both (p b) (list_all p other) b_all).0 in
+    let passes : p b ≡ true = (and_parts (p b) (list_all p other) b_all).0 in
     cc (first, passes)
 one_cut p (a ∷ front) [] x y a_all b_all x_not y_not same =
     let first : p a ≡ false = ap (begins p) same ∙ y_not in
-    let passes : p a ≡ true = (both (p a) (list_all p front) a_all).0 in
+    let passes : p a ≡ true = (and_parts (p a) (list_all p front) a_all).0 in
     cc (first, passes)
 one_cut p (a ∷ front) (b ∷ other) x y a_all b_all x_not y_not same =
     let rest_same : front ++ x ≡ other ++ y = cc same in
     let first_same : a ≡ b = cc same in
-    let more = one_cut p front other x y ((both (p a) (list_all p front) a_all).1)
-    ((both (p b) (list_all p other) b_all).1) x_not y_not rest_same in
+    let more = one_cut p front other x y ((and_parts (p a) (list_all p front) a_all).1)
+    ((and_parts (p b) (list_all p other) b_all).1) x_not y_not rest_same in
     record {
       front = ap (λ c. c ∷ front) first_same ∙ ap (λ cs. b ∷ cs) (more.front);
       rest = more.rest;
@@ -47,12 +44,7 @@ word_begins : (word more : List ℕ) → word ≢ [] → HasNoSpace word
     → begins is_space (word ++ more) ≡ false
 word_begins [] more some no_space = absurd (some refl)
 word_begins (b ∷ word) more some no_space =
-    not_true (is_space b) ((both (not (is_space b)) (list_all is_word_byte word) no_space).0)
-  where
-    not_true : (a : Bool) → not a ≡ true → a ≡ false
-    not_true true h = cc h
-    not_true false h = refl
-
+    not-true (is_space b) ((and_parts (not (is_space b)) (list_all is_word_byte word) no_space).0)
 -- What stands behind the spaces at the front of the parameters.
 record Start (text : List ℕ) : Type 0 where
   gap : List ℕ
@@ -226,11 +218,12 @@ command_is_some text command ps at none =
 gap_is_no_word : (between text : List ℕ) → IsGap between → between ≢ [] → EndsWord (between ++ text)
 gap_is_no_word [] text gap some = absurd (some refl)
 gap_is_no_word (b ∷ between) text gap some =
-    ap not ((both (is_space b) (list_all is_space between) gap).0)
+    ap not ((and_parts (is_space b) (list_all is_space between) gap).0)
 
 gap_alone_is_no_word : (after : List ℕ) → IsGap after → EndsWord after
 gap_alone_is_no_word [] gap = refl
-gap_alone_is_no_word (b ∷ after) gap = ap not ((both (is_space b) (list_all is_space after) gap).0)
+gap_alone_is_no_word (b ∷ after) gap =
+    ap not ((and_parts (is_space b) (list_all is_space after) gap).0)
 
 -- the prefix and what follows it
 prefix_is_one : (prefix other after later : List ℕ) → HasNoSpace prefix → HasNoSpace other

@@ -1,13 +1,13 @@
 -- Each step of the reader, in the words of the grammar.
-use Rattle.std.proofs.Common.{◌≡◌, ◌≢◌, ℕ, ◌+◌, ◌-◌, ◌<◌, Bool, true, false, ◌||◌, ◌&&◌, not}
-use Rattle.std.proofs.Common.{Option, Some, None, List, [], ◌∷◌, ◌++◌, map, length, refl, sym, inl}
-use Rattle.std.proofs.Common.{inr, ◌∙◌, ap, subst, append_assoc, append-nil, arith, length-append}
+use Rattle.std.proofs.Common.{◌≡◌, ◌≢◌, ℕ, ◌+◌, ◌-◌, ◌<◌, true, false, ◌||◌, ◌&&◌}
+use Rattle.std.proofs.Common.{Option, Some, None, List, [], ◌∷◌, ◌++◌, map, length, refl, sym}
+use Rattle.std.proofs.Common.{◌∙◌, ap, subst, append_assoc, append-nil, arith, length-append}
 use Rattle.std.proofs.Common.{eqb}
 use Rattle.std.specs.Borrow.{Bor}
 use Rattle.std.specs.List.{list_all}
-use Rattle.std.proofs.lemmas.Bool.Decides.{eqb_tells}
 use Rattle.std.proofs.lemmas.List.{map-append}
 use Rattle.std.proofs.lemmas.List.Folds.{list_all-append}
+use Rattle.std.proofs.lemmas.Bool.{not_from_false, ne_eqb}
 use Rattle.irc_line.specs.Limits.{max_parameters}
 use Rattle.irc_line.specs.Bytes.{is_space, is_colon, has_nul, begins, colon}
 use Rattle.irc_line.specs.Grammar.{is_word_byte, IsGap, EndsWord, ReadsParams, no_more}
@@ -70,14 +70,10 @@ colon_ends text rest behind items new first x completes rest_is is_colon new_is 
     (completes (x.now ∷ []) (behind_colon (max_parameters - length items) rest [] (x.now) refl
     (rest_is ∙ ap (λ c. c ∷ x.now) is_colon)))
 
-not_equal : (a b : ℕ) → (a ≡ b → ⊥) → eqb a b ≡ false
-not_equal a b differ =
-    elim (eqb_tells a b) [ inl same ↦ absurd (differ (same.1)) | inr other ↦ other.0 ]
-
 -- the first byte is neither a space nor a colon
 pub neither : (b : ℕ) (more : List ℕ) → begins is_space (b ∷ more) ≡ false → (b ≡ colon → ⊥)
     → begins (λ c. is_space c || is_colon c) (b ∷ more) ≡ false
-neither b more no_space no_colon = ap (λ v. v || is_colon b) no_space ∙ not_equal b colon no_colon
+neither b more no_space no_colon = ap (λ v. v || is_colon b) no_space ∙ ne_eqb b colon no_colon
 
 pub rest_ends : (text rest more : List ℕ) (items new : List (Bor (List ℕ))) (first : ℕ)
     (x : Bor (List ℕ)) → Completes text items rest → begins is_space rest ≡ false
@@ -94,17 +90,13 @@ rest_ends text rest more items new first x completes no_space rest_is no_colon l
     (completes (rest ∷ [])
     (the_rest (max_parameters - length items) rest [] rest one refl some begins_none refl))
 
-not_false : (a : Bool) → a ≡ false → not a ≡ true
-not_false true h = cc h
-not_false false h = refl
-
 -- the word at the front of a text that begins with neither a space nor a colon
 pub some_word : (first : ℕ) (behind word more : List ℕ) → begins is_space (first ∷ behind) ≡ false
     → EndsWord more → first ∷ behind ≡ word ++ more → word ≢ []
 some_word first behind word more no_space ends is none =
     let more_is : first ∷ behind ≡ more = is ∙ ap (λ w. w ++ more) none in
     let never : true ≡ false =
-    sym (not_false (is_space first) no_space) ∙ ap (begins is_word_byte) more_is ∙ ends in
+    sym (not_from_false (is_space first) no_space) ∙ ap (begins is_word_byte) more_is ∙ ends in
     cc never
 
 pub word_no_colon : (first : ℕ) (behind word more : List ℕ) → word ≢ []
@@ -112,7 +104,7 @@ pub word_no_colon : (first : ℕ) (behind word more : List ℕ) → word ≢ []
 word_no_colon first behind [] more some is no_colon = absurd (some refl)
 word_no_colon first behind (b ∷ word) more some is no_colon =
     let same : first ≡ b = cc is in
-    not_equal b colon (λ b_is. no_colon (same ∙ b_is))
+    ne_eqb b colon (λ b_is. no_colon (same ∙ b_is))
 
 -- one parameter more
 pub word_goes_on : (text rest behind more next : List ℕ) (items new : List (Bor (List ℕ)))
@@ -152,7 +144,7 @@ gap_missing : (more text : List ℕ) → EndsWord more → begins is_space text 
 gap_missing more [] ends no_space some same = some refl
 gap_missing more (b ∷ text) ends no_space some same =
     let never : true ≡ false =
-    sym (not_false (is_space b) no_space) ∙ ap (begins is_word_byte) (sym same) ∙ ends in
+    sym (not_from_false (is_space b) no_space) ∙ ap (begins is_word_byte) (sym same) ∙ ends in
     cc never
 
 pub plain_line : (line text behind command : List ℕ) (first : ℕ) (ps : List (List ℕ))
@@ -162,7 +154,7 @@ pub plain_line : (line text behind command : List ℕ) (first : ℕ) (ps : List 
 plain_line line text behind command first ps prefix none no_nul at text_is no_colon command_at =
     subst (λ (p : Option (List ℕ)). Reads line (message p command ps)) (sym none)
     (plain line (at.gap) text command ps no_nul (at.gap_is)
-    (ap (begins is_colon) text_is ∙ not_equal first colon no_colon) (at.text_is) command_at)
+    (ap (begins is_colon) text_is ∙ ne_eqb first colon no_colon) (at.text_is) command_at)
 
 pub prefixed_line : (line start behind prefix more text command : List ℕ)
     (first : ℕ) (ps : List (List ℕ)) (found : Option (List ℕ)) → found ≡ Some prefix

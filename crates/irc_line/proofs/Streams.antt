@@ -7,6 +7,7 @@ use Rattle.std.specs.Prelude.{option_to_list}
 use Rattle.std.specs.List.{list_any}
 use Rattle.std.proofs.lemmas.List.{take-append-le, nil_from_length}
 use Rattle.std.proofs.lemmas.List.Folds.{list_any-append}
+use Rattle.std.proofs.lemmas.Bool.{or_parts}
 use Rattle.irc_line.specs.Limits.{max_line}
 use Rattle.irc_line.specs.Bytes.{is_line_end, is_nul, has_nul, cut}
 use Rattle.irc_line.specs.Lines.{is_empty, line_of, nothing_begun, tail, lines, Begun, begun_of}
@@ -21,16 +22,12 @@ unfolding cut
 is_empty-cut [] = refl
 is_empty-cut (x ∷ xs) = refl
 
-pub neither : (a b : Bool) → (a || b) ≡ false → (a ≡ false) × (b ≡ false)
-neither true b none = cc none
-neither false b none = (refl, none)
-
 pub list_any-take : (p : ℕ → Bool) (n : ℕ) (xs : List ℕ) → list_any p xs ≡ false
     → list_any p (take n xs) ≡ false
 list_any-take p zero xs none = refl
 list_any-take p (suc n) [] none = refl
 list_any-take p (suc n) (x ∷ xs) none =
-    let both = neither (p x) (list_any p xs) none in
+    let both = or_parts (p x) (list_any p xs) none in
     ap (λ b. b || list_any p (take n xs)) (both.0) ∙ list_any-take p n xs (both.1)
 
 pub list_any-cut : (p : ℕ → Bool) (xs : List ℕ) → list_any p xs ≡ false
@@ -44,7 +41,7 @@ passes_behind : (p : ℕ → Bool) (n : ℕ) (xs : List ℕ) → list_any p xs �
 passes_behind p zero xs some none = omega arith
 passes_behind p (suc n) [] some none = cc some
 passes_behind p (suc n) (x ∷ xs) some none =
-    let first = neither (p x) (list_any p (take n xs)) none in
+    let first = or_parts (p x) (list_any p (take n xs)) none in
     let behind : n ≤ length xs =
     passes_behind p n xs (sym (ap (λ b. b || list_any p xs) (first.0)) ∙ some) (first.1) in
     omega arith

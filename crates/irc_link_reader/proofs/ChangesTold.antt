@@ -4,6 +4,7 @@ use Rattle.std.proofs.Common.{unwrap_or}
 use Rattle.std.specs.Prelude.{⊤}
 use Rattle.std.proofs.Common.{Result, Ok, Err, List, [], ◌∷◌, map, if◌then◌else◌, refl, sym, ◌∙◌}
 use Rattle.std.proofs.Common.{ap}
+use Rattle.std.proofs.lemmas.Bool.{and_from}
 use Rattle.irc_batch.specs.declared.close_reason.CloseReason.{CloseReason}
 use Rattle.irc_batch.specs.declared.close_reason.CloseReason.TheVariants as reason
 use Rattle.irc_names.specs.Names.{is_channel, is_nick, is_server}
@@ -105,10 +106,6 @@ ok_if : {A E : Type 0} (b : Bool) (x y : A) (e : E) → Ok x ≡ (if b then Ok y
 ok_if true x y e is = (refl, ap (value_or x) is)
 ok_if false x y e is = cc is
 
-both_so : (a b : Bool) → a ≡ true → b ≡ true → (a && b) ≡ true
-both_so true b is more = more
-both_so false b is more = cc is
-
 -- what is named is a user or a server
 named_so : (name : List ℕ) (who : Doer) (is_one is_user : Bool)
     → Ok who ≡ who_by name is_one is_user → (is_user || is_one) ≡ true
@@ -153,7 +150,7 @@ topic_line_told reader name words more none channel text read_text read_channel 
     ap Ok (is ∙ (λ i. topic_counted reader who (named.1 i) (fits.1 i))
     ∙ topic-counted reader name channel text who whose)
     ∙ sym (passes line fits.0 refl far.0
-    (both_so (is_nick name || is_server name) (is_channel channel)
+    (and_from (is_nick name || is_server name) (is_channel channel)
     (named_so name who (is_server name) (is_nick name) whose) named.0) refl)
     ∙ ap (λ ws. first_reason (judged (Some name) (topic_line reader (Some name) ws)))
     (sym (first ∙ ap (λ ws. channel ∷ ws) (second ∙ ap (λ ws. text ∷ ws) ended)))

@@ -10,6 +10,7 @@ use Rattle.std.proofs.lemmas.Bool.Decides.{nat_tests}
 use Rattle.std.proofs.lemmas.List.Folds.{list_all-append, list_all-map}
 use Rattle.irc_names.specs.Names.{fits, starts_without_colon}
 use Rattle.std.specs.Borrow.{Bor}
+use Rattle.std.proofs.lemmas.Bool.{and_from}
 use Rattle.irc_line.specs.Bytes.{is_space}
 use Rattle.irc_line.specs.PartViews.{words_now}
 use Rattle.irc_modes.specs.Limits.{max_mode_word}
@@ -78,15 +79,12 @@ rest_short false words short = short
 rest_short true [] short = refl
 rest_short true (word ∷ words) short = second_so (is_short word) _ short
 
-both_so : (a b : Bool) → a ≡ true → b ≡ true → (a && b) ≡ true
-both_so a b one other = ap (λ t. t && b) one ∙ other
-
 letters_kept : (plus : Bool) (letters : List ℕ) (words : List (List ℕ)) → list_all is_short words
     ≡ true → list_all (λ (r : ReadLetter). is_kept r.asked) (letters_read plus letters words) ≡ true
 letters_kept plus [] words short = refl
 letters_kept plus (byte ∷ letters) words short =
     by_sign (is_sign byte) _ _ (letters_kept (nat_eq byte plus_byte) letters words short)
-    (both_so (is_kept (reading plus byte (next_word words)).asked) _
+    (and_from (is_kept (reading plus byte (next_word words)).asked) _
     (reading_kept plus byte (mode_of byte) (next_word words) (next_short words short))
     (letters_kept plus letters (words_after plus byte words)
     (rest_short (letter_asks plus (mode_of byte)) words short)))
@@ -104,19 +102,19 @@ counted_kept earlier [] kept = refl
 counted_kept earlier (reading ∷ later) kept =
     list_all-append is_kept (if counts earlier reading then reading.asked ∷ [] else [])
     (counted (earlier ++ reading ∷ []) later)
-    ∙ both_so _ _ (by_count (counts earlier reading) (first_so (is_kept reading.asked) _ kept))
+    ∙ and_from _ _ (by_count (counts earlier reading) (first_so (is_kept reading.asked) _ kept))
     (counted_kept (earlier ++ reading ∷ []) later (second_so (is_kept reading.asked) _ kept))
   where
     by_count : (b : Bool) → is_kept reading.asked ≡ true
         → list_all is_kept (if b then reading.asked ∷ [] else []) ≡ true
-    by_count true so = both_so _ true so refl
+    by_count true so = and_from _ true so refl
     by_count false so = refl
 
 words_short : (words : List (List ℕ)) → list_all is_mode_word words ≡ true
     → list_all is_short words ≡ true
 words_short [] so = refl
 words_short (word ∷ words) so =
-    both_so _ _ (second_so (starts_without_colon word && list_all (λ b. not (is_space b)) word) _
+    and_from _ _ (second_so (starts_without_colon word && list_all (λ b. not (is_space b)) word) _
     (first_so (is_mode_word word) _ so))
     (words_short words (second_so (is_mode_word word) _ so))
 

@@ -2,18 +2,15 @@
 use Rattle.std.proofs.Common.{◌≡◌, ℕ, true, ◌&&◌, Some, List, [], ◌∷◌, if◌then◌else◌, nat_eq, refl}
 use Rattle.std.proofs.Common.{◌∙◌, ap}
 use Rattle.std.specs.Cmp.Lexicographic.{pointwise}
-use Rattle.std.specs.Cmp.{nat_eq_equiv}
 use Rattle.std.specs.Option.{option_map}
+use Rattle.std.proofs.lemmas.Bool.{eq-eqb}
 use Rattle.irc_routes.specs.Known.{Known, info_of, row_of}
 use Rattle.irc_routes.specs.declared.server_row.ServerRow.{ServerRow}
-
-eq_itself : (n : ℕ) → nat_eq n n ≡ true
-eq_itself n = nat_eq_equiv.refl n
 
 pointwise_itself : (xs : List ℕ) → pointwise nat_eq xs xs ≡ true
 pointwise_itself [] = refl
 pointwise_itself (x ∷ xs) =
-    ap (λ b. b && pointwise nat_eq xs xs) (eq_itself x) ∙ pointwise_itself xs
+    ap (λ b. b && pointwise nat_eq xs xs) (eq-eqb x x refl) ∙ pointwise_itself xs
 
 pub own_info_known : (known : Known) → info_of known known.name ≡ Some known.info
 own_info_known known =

@@ -8,6 +8,7 @@ use Rattle.std.specs.List.{list_all, AllByRecursion}
 use Rattle.std.specs.Option.{option_map_or}
 use Rattle.std.specs.Cmp.Lexicographic.{pointwise, bytes_decides}
 use Rattle.std.specs.FinMap.{entries, entries_sorted, find, get-entries}
+use Rattle.irc_names.specs.Lemmas.PlainFacts.{is_true}
 use Rattle.irc_names.specs.Spellings.{exactly_same}
 use Rattle.irc_names.specs.Tables.{Table, fold_cmp, row}
 use Rattle.irc_names.specs.TableLaws.{same_fold, one_fold}
@@ -19,7 +20,7 @@ use Rattle.irc_room.specs.Lemmas.Rows.{same_some, not_none}
 use Rattle.irc_merge.specs.Merge.{AreAlike, Agree, room_without}
 use Rattle.irc_merge.specs.Agreeing.{same_flag, same_privacy, same_key, same_limit, same_modes}
 use Rattle.irc_merge.specs.Agreeing.{are_alike, AgreeTells}
-use Rattle.irc_merge.specs.Lemmas.TableWords.{true_is, entries_all}
+use Rattle.irc_merge.specs.Lemmas.TableWords.{entries_all}
 
 flag_tells : (one other : Bool) → Decides (same_flag one other) (one ≡ other)
 flag_tells true true = (λ e. refl, λ p. refl)
@@ -162,7 +163,7 @@ agree_tells one other = (
       (entries (room_without one other).channels)
       (λ fold channel is. by_row fold channel agreed (sym_is fold channel is)
       (row (room_without other one).channels fold) refl)
-      (true_is _ (entries_sorted (room_without one other).channels))),
+      (is_true _ (entries_sorted (room_without one other).channels))),
 )
   where
     sym_is : (fold : List ℕ) (channel : Channel)

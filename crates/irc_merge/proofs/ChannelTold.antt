@@ -4,12 +4,13 @@
 use Rattle.std.proofs.Common.{◌≡◌, ℕ, Bool, true, false, cond, not, ◌&&◌, ◌||◌, Option, Some, None}
 use Rattle.std.proofs.Common.{List, [], ◌∷◌, ◌++◌, refl, sym, ◌∙◌, ap, subst, map, fold, filter}
 use Rattle.std.proofs.Common.{is_some, option_map, filter_map, arith, if◌then◌else◌}
-use Rattle.std.proofs.lemmas.Bool.{and_from, or_from}
+use Rattle.std.proofs.lemmas.Bool.{and_from, or_from, or_right, or_parts}
 use Rattle.std.proofs.lemmas.List.{map-append}
 use Rattle.std.proofs.lemmas.List.Folds.{list_all-append, list_any-append}
 use Rattle.std.proofs.lemmas.List.Sums.{fold-append}
 use Rattle.std.specs.List.{list_all, list_any, cons_option, AllByRecursion}
 use Rattle.std.specs.FinMap.{empty, entries, keys, retain_keys, find, get-empty, get-entries}
+use Rattle.irc_names.specs.Lemmas.PlainFacts.{none_if_not_some, same_either_way}
 use Rattle.irc_names.specs.Fold.{key}
 use Rattle.irc_names.specs.Greater.{bytes_cmp, greater}
 use Rattle.irc_names.specs.GreaterLaws.{greater_associates, greater_with_itself}
@@ -45,11 +46,7 @@ use Rattle.irc_merge.specs.Lemmas.ChannelRows.{with_member, comes_to, entry_join
 use Rattle.irc_merge.specs.Lemmas.ChannelRows.{row_new, row_spelled, line_in, row_far, all_raised}
 use Rattle.irc_merge.specs.Lemmas.ChannelRows.{topic_raised, row_set, topic_row, members_row}
 use Rattle.irc_merge.specs.Lemmas.ChannelRows.{modes_row, channel_row}
-use Rattle.irc_merge.specs.Lemmas.BooleanTests.{and_not, neither, or_second, either_way}
-
-none_of : {X : Type 0} (o : Option X) → is_some o ≡ false → o ≡ None
-none_of None e = refl
-none_of (Some x) e = cc
+use Rattle.irc_merge.specs.Lemmas.BooleanTests.{and_not}
 
 -- a table without a key has no row
 pub no_rows : {X : Type 0} (table : Table X) → is_nil (keys table) ≡ true → (q : List ℕ)
@@ -95,7 +92,7 @@ pub entries_pass : {X : Type 0} (P : List ℕ → Type 0) (es : List (List ℕ �
 entries_pass P [] so = tt
 entries_pass P (e ∷ es) so = (
   so e.0 (ap (λ b. b || list_any (same_fold e.0) (map (λ e. e.0) es)) (same_fold-refl e.0)),
-  entries_pass P es (λ q there. so q (or_second (same_fold q e.0) _ there)),
+  entries_pass P es (λ q there. so q (or_right (same_fold q e.0) _ there)),
 )
 
 pub stands : (users : Table User) (channel : Channel) → IsTellable users channel → (q : List ℕ)
@@ -160,7 +157,7 @@ module _ (passes : List ℕ → Bool) where
   row-in : (es : List (List ℕ × Flags)) (table : Table Flags) (q : List ℕ) → row
       (fold row_in table es) q ≡ either (row table q) (cond (passes q) (find fold_cmp q es) None)
   row-in [] table q =
-      sym (ap (either (row table q)) (either_way (passes q) None) ∙ either_none (row table q))
+      sym (ap (either (row table q)) (same_either_way (passes q) None) ∙ either_none (row table q))
   row-in (e ∷ es) table q =
       row-in es (row_in table e) q
       ∙ by_test (passes e.0 && not (is_some (row table e.0))) refl (same_fold q e.0) refl
@@ -183,7 +180,7 @@ module _ (passes : List ℕ → Bool) where
           ap (λ o. either o (cond (passes q) (find fold_cmp q es) None))
           (row-alter e.0 (λ _. Some e.1) table q ∙ ap (λ b. cond b (Some e.1) (row table q)) one)
           ∙ sym (ap (λ o. either o (cond (passes q) (Some e.1) None))
-          (ap (row table) (one_fold q e.0 one) ∙ none_of (row table e.0) parts.1)
+          (ap (row table) (one_fold q e.0 one) ∙ none_if_not_some (row table e.0) parts.1)
           ∙ ap (λ b. cond b (Some e.1) None) (ap passes (one_fold q e.0 one) ∙ parts.0))
       by_test true new false two =
           ap (λ o. either o (cond (passes q) (find fold_cmp q es) None))
@@ -308,7 +305,7 @@ module _ (passes : List ℕ → Bool) where
       → fold row_in table es ≡ table
   none_new [] table none = refl
   none_new (e ∷ es) table none =
-      let parts = neither _ _ none in
+      let parts = or_parts _ _ none in
       ap (λ b. fold row_in (cond b (alter e.0 (λ _. Some e.1) table) table) es) parts.0
       ∙ none_new es table parts.1
 
@@ -383,7 +380,7 @@ module _ (passes : List ℕ → Bool) where
       by_test true some =
           ap (λ t. cond (any_new (fold row_in channel.members a) b) t
           (greater bytes_cmp channel.name name)) (greater_again channel.name name)
-          ∙ either_way (any_new (fold row_in channel.members a) b)
+          ∙ same_either_way (any_new (fold row_in channel.members a) b)
           (greater bytes_cmp channel.name name)
       by_test false none =
           ap (λ t. cond (any_new t b) (greater bytes_cmp channel.name name) channel.name)
@@ -436,7 +433,7 @@ module _ (passes : List ℕ → Bool) where
           (ap (greater bytes_cmp channel.name) (sym theirs.0) ∙ greater_with_itself channel.name)
           ∙ ap (λ t. Some
           (record channel { name = t; members = fold row_in channel.members (folded line) }))
-          (either_way (any_new channel.members (folded line)) channel.name)
+          (same_either_way (any_new channel.members (folded line)) channel.name)
           ∙ sym (some_joins name (folded line) channel theirs.1)
 
       made : (members : Table Flags)
@@ -463,7 +460,7 @@ module _ (passes : List ℕ → Bool) where
   none_pass (k ∷ ks) fail =
       or_from (passes k) (list_any passes ks)
       (fail k (ap (λ b. b || list_any (same_fold k) ks) (same_fold-refl k)))
-      (none_pass ks (λ q there. fail q (or_second (same_fold q k) _ there)))
+      (none_pass ks (λ q there. fail q (or_right (same_fold q k) _ there)))
 
   pub one_passes : (q : List ℕ) (ks : List (List ℕ)) → list_any (same_fold q) ks ≡ true
       → passes q ≡ true → list_any passes ks ≡ true
@@ -476,7 +473,7 @@ module _ (passes : List ℕ → Bool) where
           → (passes k || list_any passes ks) ≡ true
       by_fold true one there rest =
           ap (λ b. b || list_any passes ks) (ap passes (sym (one_fold q k one)) ∙ pass)
-      by_fold false two there rest = or_second (passes k) (list_any passes ks) (rest there)
+      by_fold false two there rest = or_right (passes k) (list_any passes ks) (rest there)
 
   sets_stay : (x : Option Channel) (lines : List (List ModeChange)) → row_far passes x ≡ false
       → fold (row_set passes) x lines ≡ x

@@ -6,6 +6,8 @@ use Rattle.std.proofs.lemmas.List.Folds.{list_any-append}
 use Rattle.std.specs.List.{list_any}
 use Rattle.std.specs.Option.{option_and_then, option_map_or}
 use Rattle.std.specs.FinMap.{entries, keys, retain_keys}
+use Rattle.std.proofs.lemmas.Bool.{not-false}
+use Rattle.irc_names.specs.Lemmas.PlainFacts.{same_either_way}
 use Rattle.irc_names.specs.Fold.{key}
 use Rattle.irc_names.specs.GreaterLaws.{greater_with_itself}
 use Rattle.irc_names.specs.Tables.{Table, row, each, both}
@@ -26,7 +28,6 @@ use Rattle.irc_merge.specs.Laws.{CanBeTold}
 use Rattle.irc_merge.specs.Rejoined.{has_home_in, AreSides, SidesShareNoNickname, is_lost}
 use Rattle.irc_merge.specs.Rejoined.{has_member_beside, inviting_beside, without_ended}
 use Rattle.irc_merge.specs.Rejoined.{RejoinGivesBack, RejoinGivesAllBack}
-use Rattle.irc_merge.specs.Lemmas.BooleanTests.{either_way}
 use Rattle.irc_merge.specs.Lemmas.Joining.{row-either, row-joined}
 use Rattle.irc_merge.specs.Lemmas.Quitting.{among, among_values, users_left, channels_left, thinned}
 use Rattle.irc_merge.specs.Lemmas.SplitInTurn.{split_is_well_formed}
@@ -140,7 +141,7 @@ whole_kept {X} table p each_passes = same_table (retain_keys table p) table
     (λ q. row-kept table p q ∙ by_row (p q) (row table q) (each_passes q))
   where
     by_row : (b : Bool) (o : Option X) → (is_some o ≡ true → b ≡ true) → cond b o None ≡ o
-    by_row b None passes = either_way b None
+    by_row b None passes = same_either_way b None
     by_row b (Some x) passes = ap (λ (c : Bool). cond c (Some x) None) (passes refl)
 
 -- what each side keeps of a table, where a row is lost on just one
@@ -155,8 +156,8 @@ module _ {X : Type 0} (table : Table X) (gone other : List ℕ → Bool)
   row_back : (b c : Bool) (o : Option X) → (is_some o ≡ true → c ≡ not b)
       → either (cond (not b) o None) (cond (not c) o None) ≡ o
   row_back b c None apart =
-      (λ i. either (either_way {X = Option X} (not b) None i)
-      (either_way {X = Option X} (not c) None i))
+      (λ i. either (same_either_way {X = Option X} (not b) None i)
+      (same_either_way {X = Option X} (not c) None i))
   row_back true c (Some x) apart = ap (λ (d : Bool). cond (not d) (Some x) None) (apart refl)
   row_back false c (Some x) apart = refl
 
@@ -175,20 +176,16 @@ module _ {X : Type 0} (table : Table X) (gone other : List ℕ → Bool)
   kept_there = retain_keys-alike table gone (λ q. not (other q))
       (λ q there. turned (gone q) (other q) (apart q there))
 
-  not_false : (b : Bool) → not b ≡ false → b ≡ true
-  not_false true is = refl
-  not_false false is = sym is
-
   -- a side that keeps nothing, and one that keeps all
   pub all_far : is_nil (keys near) ≡ true → far ≡ table
   all_far none = whole_kept table (λ q. not (other q)) (λ q there.
       ap not (apart q there)
       ∙ ap (λ b. not (not b))
-      (not_false (gone q) (none_kept table (λ q. not (gone q)) none q there)))
+      (not-false (gone q) (none_kept table (λ q. not (gone q)) none q there)))
 
   pub all_near : is_nil (keys far) ≡ true → near ≡ table
   all_near none = whole_kept table (λ q. not (gone q)) (λ q there.
-      sym (apart q there) ∙ not_false (other q) (none_kept table (λ q. not (other q)) none q there))
+      sym (apart q there) ∙ not-false (other q) (none_kept table (λ q. not (other q)) none q there))
 
   pub some_side : {A : Type 0} → is_nil (keys table) ≡ false → is_nil (keys near) ≡ true
       → is_nil (keys far) ≡ true → A
@@ -269,7 +266,7 @@ module _ (lost others : List (List ℕ)) (users : Table User) (fold : List ℕ) 
       stay : retain_keys channel.invited beside ≡ channel.invited
       stay = whole_kept channel.invited beside (λ q there.
           beside_by q ∙ (λ i. cond (gone q) (not (far_some i)) (not (near_some i)))
-          ∙ either_way (gone q) true)
+          ∙ same_either_way (gone q) true)
 
   far_alone : none_near ≡ true → none_far ≡ false → left members_far invited_far
       ≡ left channel.members (retain_keys channel.invited beside)
@@ -320,7 +317,8 @@ module _ (lost others : List (List ℕ)) (users : Table User) (fold : List ℕ) 
 user_back : (b c : Bool) (o : Option User) → (is_some o ≡ true → c ≡ not b)
     → either (cond b None o) (cond c None o) ≡ o
 user_back b c None apart =
-    (λ i. either (either_way {X = Option User} b None i) (either_way {X = Option User} c None i))
+    (λ i. either (same_either_way {X = Option User} b None i)
+          (same_either_way {X = Option User} c None i))
 user_back true c (Some user) apart = ap (λ (d : Bool). cond d None (Some user)) (apart refl)
 user_back false c (Some user) apart = refl
 

@@ -6,6 +6,7 @@ use Rattle.std.specs.List.{list_any}
 use Rattle.std.specs.Prelude.{unwrap_or}
 use Rattle.std.specs.Cmp.Lexicographic.{bytes_decides}
 use Rattle.std.specs.FinMap.{get-empty}
+use Rattle.std.proofs.lemmas.Bool.{or_parts}
 use Rattle.irc_names.specs.Fold.{key, same}
 use Rattle.irc_names.specs.Tables.{fold_cmp, row}
 use Rattle.irc_names.specs.TableLaws.{same_fold, one_fold, row-alter, row-alter_same}
@@ -23,7 +24,7 @@ use Rattle.irc_merge.specs.BurstRead.{is_new_member, new_members}
 use Rattle.irc_merge.specs.Laws.{no_member_twice, MembersAtOnce}
 use Rattle.irc_merge.specs.Lemmas.ChannelRows.{comes, comes_to}
 use Rattle.irc_merge.specs.Lemmas.ChannelRows.{row_has}
-use Rattle.irc_merge.specs.Lemmas.BooleanTests.{and_not, not_and, neither}
+use Rattle.irc_merge.specs.Lemmas.BooleanTests.{and_not, not_and}
 
 -- two nicknames that are not the same
 two_folds : (one other : List ℕ) → same one other ≡ false → same_fold (key other) (key one) ≡ false
@@ -63,7 +64,7 @@ module _ (far : List ℕ → Bool) (channel : List ℕ) where
       channel) members ≡ filter (is_new_member far room channel) members
   all_still room member [] apart = refl
   all_still room member (other ∷ members) apart =
-      let parts = neither _ _ apart in
+      let parts = or_parts _ _ apart in
       λ i. cond (still_new room member other parts.0 i) (other
       ∷ all_still room member members parts.1 i) (all_still room member members parts.1 i)
 

@@ -1,9 +1,10 @@
 -- What a split leaves where the room is lists, and who is invited once two such rooms are joined.
-use Rattle.std.proofs.Common.{◌≡◌, ℕ, Bool, true, false, ◌||◌, Option, Some, None, List, refl, ◌∙◌}
-use Rattle.std.proofs.Common.{ap, map, fold, filter, is_some, option_map}
+use Rattle.std.proofs.Common.{◌≡◌, ℕ, Bool, false, ◌||◌, Option, Some, None, List, refl, ◌∙◌}
+use Rattle.std.proofs.Common.{ap, map, fold, filter, is_some, option_map, sym}
 use Rattle.std.specs.List.{flat_map}
 use Rattle.std.specs.Option.{option_map_or}
 use Rattle.std.specs.FinMap.Entries.{find}
+use Rattle.std.proofs.Math.Bool.{or-false}
 use Rattle.irc_names.specs.Tables.{fold_cmp, row}
 use Rattle.irc_users.specs.declared.user.User.{User}
 use Rattle.irc_users.specs.UserTable.{is_home}
@@ -59,11 +60,7 @@ joined_invited : (nick : List ℕ) (x y : Option ListedChannel) → option_map_o
 joined_invited nick None None = refl
 joined_invited nick None (Some d) = ap is_some (invited_row nick d)
 joined_invited nick (Some c) None =
-    ap is_some (invited_row nick c) ∙ alone (is_some (find fold_cmp nick c.invited))
-  where
-    alone : (b : Bool) → b ≡ (b || false)
-    alone true = refl
-    alone false = refl
+    ap is_some (invited_row nick c) ∙ sym (or-false (is_some (find fold_cmp nick c.invited)))
 joined_invited nick (Some c) (Some d) =
     ap is_some (row-either (table_of (λ (u : Unit {0}). u) c.invited)
     (table_of (λ (u : Unit {0}). u) d.invited) nick

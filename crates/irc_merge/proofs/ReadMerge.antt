@@ -7,6 +7,7 @@ use Rattle.std.specs.Option.{option_map_or, option_and_then}
 use Rattle.std.specs.FinMap.{empty, entries, entries_sorted, values, retain_keys, find, is_sorted}
 use Rattle.std.specs.FinMap.{get-empty, get-entries}
 use Rattle.std.specs.FinMap.Entries.{below_all}
+use Rattle.irc_names.specs.Lemmas.PlainFacts.{is_true, same_either_way}
 use Rattle.irc_names.specs.Fold.{key}
 use Rattle.irc_names.specs.Tables.{Table, fold_cmp, row, both}
 use Rattle.irc_names.specs.TableLaws.{same_fold, one_fold, same_table, row-alter, row-each}
@@ -22,7 +23,7 @@ use Rattle.irc_merge.specs.Bursts.{burst, user_deeds, channel_deeds, home_passes
 use Rattle.irc_merge.specs.Merge.{clash, room_without, either, joined_channel, merge, uninvited}
 use Rattle.irc_merge.specs.Merge.{channel_uninvited}
 use Rattle.irc_merge.specs.Laws.{AreApart, CanBeTold, BurstReadIsMerge}
-use Rattle.irc_merge.specs.Lemmas.TableWords.{true_is, row-kept, absent, first_there, above_first}
+use Rattle.irc_merge.specs.Lemmas.TableWords.{row-kept, absent, first_there, above_first}
 use Rattle.irc_merge.specs.Lemmas.TableWords.{entries_all, values_each}
 use Rattle.irc_merge.specs.Lemmas.Quitting.{among, peopled, thinned}
 use Rattle.irc_merge.specs.Lemmas.Clashing.{clashing, users_without, channels_without, without_well}
@@ -33,7 +34,6 @@ use Rattle.irc_merge.proofs.UsersRead.{users_introduced, channels_introduced}
 use Rattle.irc_merge.specs.Lemmas.ChannelRows.{channel_row, deeds_row}
 use Rattle.irc_merge.proofs.ChannelTold.{IsNear, IsNearRow, channel_told}
 use Rattle.irc_merge.proofs.NothingNew.{without_comes}
-use Rattle.irc_merge.specs.Lemmas.BooleanTests.{either_way}
 use Rattle.irc_merge.specs.Lemmas.UninvitedRooms.{uninvited_row, uninvited_well}
 
 joined_none : (x : Option Channel) → joined_channel x None ≡ x
@@ -45,7 +45,7 @@ pub nothing_kept : {X : Type 0} (p : List ℕ → Bool)
 nothing_kept {X} p = same_table empty (retain_keys empty p) (λ q.
     get-empty {X = X} fold_cmp q
     ∙ sym (row-kept (empty {X = X} {R = fold_cmp}) p q
-    ∙ ap (λ o. cond (p q) o None) (get-empty {X = X} fold_cmp q) ∙ either_way (p q) None))
+    ∙ ap (λ o. cond (p q) o None) (get-empty {X = X} fold_cmp q) ∙ same_either_way (p q) None))
 
 -- this side's room, the other's, and which homes are behind the link
 module _ (far : List ℕ → Bool) (room other : Room) (well : IsWellFormed room)
@@ -99,7 +99,7 @@ module _ (far : List ℕ → Bool) (room other : Room) (well : IsWellFormed room
     where
       by_row : (q : List ℕ) (o : Option Flags) → row channel.members q ≡ o
           → cond (passes q) o None ≡ cond (not (gone q)) o None
-      by_row q None at = either_way (passes q) None ∙ sym (either_way (not (gone q)) None)
+      by_row q None at = same_either_way (passes q) None ∙ sym (same_either_way (not (gone q)) None)
       by_row q (Some flags) at =
           ap (λ b. cond b (Some flags) None) (left_passes q (known q (ap is_some at)))
 
@@ -255,7 +255,7 @@ module _ (far : List ℕ → Bool) (room other : Room) (well : IsWellFormed room
       let met = reads own far room (user_deeds other) in
       let here : met.channels ≡ (room_without room other).channels =
       channels_introduced own far room other well well_other in
-      let rise = true_is _ (entries_sorted other.channels) in
+      let rise = is_true _ (entries_sorted other.channels) in
       let read = channels_read own server (entries other.channels) rise
       (entries_all IsRead (entries other.channels)
       (λ q channel is.

@@ -9,6 +9,7 @@ use Rattle.std.specs.List.{flat_map, AllByRecursion}
 use Rattle.std.specs.Option.{option_map_or}
 use Rattle.std.specs.Ordering.{is_lt, ordering_reverse}
 use Rattle.std.specs.FinMap.{entries, entries_sorted, get-entries}
+use Rattle.irc_names.specs.Lemmas.PlainFacts.{is_true}
 use Rattle.irc_names.specs.Fold.{key}
 use Rattle.irc_names.specs.Greater.{bytes_cmp, greater}
 use Rattle.irc_names.specs.Tables.{row}
@@ -35,7 +36,7 @@ use Rattle.irc_merge.specs.Rejoined.{comers, all_comers, comers_shown, AgreedSho
 use Rattle.irc_merge.specs.Rejoined.{SidesAgree}
 use Rattle.irc_merge.specs.Rejoined.{RejoinShowsComers, RejoinShowsOnlyComers}
 use Rattle.irc_merge.specs.Lemmas.Clashing.{without_well}
-use Rattle.irc_merge.specs.Lemmas.TableWords.{true_is, entries_all}
+use Rattle.irc_merge.specs.Lemmas.TableWords.{entries_all}
 use Rattle.irc_merge.proofs.EvenMerge.{all_stay, apart_turned, none_clash}
 use Rattle.irc_merge.proofs.GivenBack.{sides_share_no_nickname}
 use Rattle.irc_merge.proofs.Lines.{joined_lines}
@@ -155,7 +156,7 @@ module _ (room other : Room) (all : AreAllAlike room other) (viewer : User) wher
       all_arrive (entries other.channels)
       (entries_all (λ fold theirs. ArriveAlike theirs) (entries other.channels)
       (λ fold theirs is. one_arrives fold theirs (get-entries other.channels fold ∙ is))
-      (true_is _ (entries_sorted other.channels)))
+      (is_true _ (entries_sorted other.channels)))
 
 pub agreed_show_comers : AgreedShowComers
 unfolding merge_shown

@@ -1,9 +1,9 @@
 -- What one user is shown by one member who comes to a channel: its JOIN and its flags, if the user
 -- is in the channel; else nothing.
-use Rattle.std.proofs.Common.{◌≡◌, ℕ, Bool, true, false, cond, not, ◌||◌, Option, Some, None, List}
+use Rattle.std.proofs.Common.{◌≡◌, ℕ, Bool, true, false, cond, not, Option, Some, None, List}
 use Rattle.std.proofs.Common.{[], ◌∷◌, ◌++◌, refl, sym, ◌∙◌, ap, is_some, option_map}
 use Rattle.std.proofs.Common.{option_to_list, filter_map, codes, nat_eq}
-use Rattle.std.proofs.lemmas.Bool.{and_parts}
+use Rattle.std.proofs.lemmas.Bool.{and_parts, or_from, or_right}
 use Rattle.std.specs.Prelude.{unwrap_or}
 use Rattle.std.specs.List.{list_all, cons_option}
 use Rattle.std.specs.Cmp.Lexicographic.{pointwise, bytes_decides}
@@ -37,11 +37,6 @@ use Rattle.irc_merge.specs.Deeds.{flag_given, member_comes}
 use Rattle.irc_merge.specs.MergeShown.{join_line, flag_line, arrival}
 use Rattle.irc_merge.proofs.PlainChanges.{is_plain}
 use Rattle.irc_merge.specs.Lemmas.ChannelRows.{given, with_member, comes_to, row_has}
-use Rattle.irc_merge.specs.Lemmas.BooleanTests.{or_second}
-
-both_false : (b c : Bool) → b ≡ false → c ≡ false → (b || c) ≡ false
-both_false true c e f = cc
-both_false false c e f = f
 
 -- one who is a member stays one when another joins, and one who is none stays none
 joined_member : (q fold : List ℕ) (channel : Channel) → has_member q channel ≡ true
@@ -202,7 +197,7 @@ module _ (viewer name : List ℕ) where
       ∙ ap (option_and_then (line_for room (Join nick name false))) sees.at
       ∙ ap (λ b. cond b (line_from (codes "JOIN") (option_map_or (λ (c : Channel). c.name)
       (row room.channels (key name)) name ∷ []) None
-      (option_map full_sender (row room.users (key nick)))) None) (or_second (same nick user.nick) _
+      (option_map full_sender (row room.users (key nick)))) None) (or_right (same nick user.nick) _
       (member_seen user title room sees))
       ∙ (λ i. line_from (codes "JOIN") (option_map_or (λ (c : Channel). c.name) (sees.there i) name
       ∷ []) None (option_map full_sender (at i)))
@@ -381,7 +376,7 @@ module _ (viewer name : List ℕ) where
       by_row None at = refl
       by_row (Some user) at =
           ap (λ b. cond b (shown_line room (Join nick name false) user) None)
-          (both_false (same nick user.nick) (is_member room user.nick name)
+          (or_from (same nick user.nick) (is_member room user.nick name)
           (ap (pointwise nat_eq (key nick)) (blind.named user at) ∙ apart nick (key viewer) two)
           (out_of room user blind at))
 

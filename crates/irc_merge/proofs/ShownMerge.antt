@@ -2,11 +2,12 @@
 use Rattle.std.proofs.Common.{◌≡◌, ℕ, Bool, true, false, cond, not, ◌&&◌, Option, Some, None, List}
 use Rattle.std.proofs.Common.{[], ◌∷◌, ◌++◌, refl, sym, ◌∙◌, ap, map, filter, filter_map, is_some}
 use Rattle.std.proofs.Common.{option_map}
-use Rattle.std.proofs.lemmas.Bool.{and_parts}
+use Rattle.std.proofs.lemmas.Bool.{and_parts, not-true}
 use Rattle.std.specs.List.{list_any, flat_map, cons_option, AllByRecursion}
 use Rattle.std.specs.Option.{option_map_or}
 use Rattle.std.specs.FinMap.{entries, entries_sorted, values, keys, retain_keys, find, is_sorted}
 use Rattle.std.specs.FinMap.{get-entries}
+use Rattle.irc_names.specs.Lemmas.PlainFacts.{is_true}
 use Rattle.irc_names.specs.Fold.{key}
 use Rattle.irc_names.specs.Greater.{bytes_cmp, greater}
 use Rattle.irc_names.specs.Tables.{Table, fold_cmp, row, alter, each, both}
@@ -27,7 +28,7 @@ use Rattle.irc_merge.specs.Merge.{clash, room_without, either}
 use Rattle.irc_merge.specs.MergeShown.{arrival, member_arrival, mode_lines, raised_lines}
 use Rattle.irc_merge.specs.MergeShown.{raised_topic, channel_arrivals, arrivals, merge_shown}
 use Rattle.irc_merge.specs.Laws.{AreApart, CanBeTold, ShownIsMergeShown}
-use Rattle.irc_merge.specs.Lemmas.TableWords.{true_is, row-kept, first_there, entries_kept}
+use Rattle.irc_merge.specs.Lemmas.TableWords.{row-kept, first_there, entries_kept}
 use Rattle.irc_merge.specs.Lemmas.TableWords.{entries_all, values_each}
 use Rattle.irc_merge.specs.Lemmas.Quitting.{thinned}
 use Rattle.irc_merge.specs.Lemmas.Clashing.{clashing, users_without, channels_without, without_well}
@@ -151,12 +152,7 @@ module _ (far : List ℕ → Bool) (room other : Room) (well : IsWellFormed room
 
   there_stays : (q : List ℕ) → not (away q) ≡ true → row there.users q ≡ row other.users q
   there_stays q stays = users_without other room well_other q ∙ ap (λ b. cond b None
-      (row other.users q)) (sym (clashing other room well_other q) ∙ is_not (away q) stays)
-    where
-      is_not : (b : Bool) → not b ≡ true → b ≡ false
-      is_not true e = not_true e
-      is_not false e = refl
-
+      (row other.users q)) (sym (clashing other room well_other q) ∙ not-true (away q) stays)
   over_kept : (title : List ℕ) (es : List (List ℕ × Flags))
       → AllByRecursion (λ e. is_some (row other.users e.0) ≡ true) es
       → flat_map (member_arrival there.users mine title) (filter (λ e. not (away e.0)) es)
@@ -272,7 +268,7 @@ module _ (far : List ℕ → Bool) (room other : Room) (well : IsWellFormed room
         (entries (retain_keys channel.members (λ q. not (away q))))
     members_seen =
         joins_seen viewer channel.name far other.users mine title (entries channel.members)
-        (true_is _ (entries_sorted channel.members))
+        (is_true _ (entries_sorted channel.members))
         (standing fold channel told.sound) (titled_by channel.name (with_all channels))
         (record {
           at = left.1;
@@ -544,7 +540,7 @@ module _ (far : List ℕ → Bool) (room other : Room) (well : IsWellFormed room
       → shown_reads viewer own far room (burst server other) ≡ merge_shown room other viewer
   unfolding burst merge_shown
   burst_shown own server theirs =
-      let rise = true_is _ (entries_sorted other.channels) in
+      let rise = is_true _ (entries_sorted other.channels) in
       let told = flat_map (channel_deeds server other.users) (values other.channels) in
       shown_reads-append viewer own far room (user_deeds other) told
       ∙ (λ i. kills_shown viewer own far room other well well_other (ap is_some at) i

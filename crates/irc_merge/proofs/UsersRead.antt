@@ -5,6 +5,7 @@ use Rattle.std.proofs.lemmas.Bool.{and_parts}
 use Rattle.std.specs.List.{AllByRecursion}
 use Rattle.std.specs.FinMap.{entries, entries_sorted, find, is_sorted, get-entries}
 use Rattle.std.specs.FinMap.Entries.{below_all}
+use Rattle.irc_names.specs.Lemmas.PlainFacts.{is_true}
 use Rattle.irc_names.specs.Fold.{key}
 use Rattle.irc_names.specs.Tables.{Table, fold_cmp, row, each, both}
 use Rattle.irc_names.specs.TableLaws.{same_fold, one_fold, same_table}
@@ -21,7 +22,7 @@ use Rattle.irc_merge.specs.Quits.{quits_of, collision_text}
 use Rattle.irc_merge.specs.Deeds.{does}
 use Rattle.irc_merge.specs.Bursts.{user_deeds}
 use Rattle.irc_merge.specs.Merge.{clash, room_without, either}
-use Rattle.irc_merge.specs.Lemmas.TableWords.{true_is, absent}
+use Rattle.irc_merge.specs.Lemmas.TableWords.{absent}
 use Rattle.irc_merge.specs.Lemmas.Reading.{reads, reads-one}
 use Rattle.irc_merge.specs.Lemmas.Introducing.{met_by, met, is_met, told_user, users_met, met_well}
 use Rattle.irc_merge.specs.Lemmas.Introducing.{introductions, under_same, other_met, both_users}
@@ -106,7 +107,7 @@ pub users_introduced : (own : List ℕ) (far : List ℕ → Bool) (room other : 
 users_introduced own far room other well well_other =
     same_table (reads own far room (user_deeds other)).users
     (both either (room_without room other).users (room_without other room).users) (λ q.
-    users_read own far (entries other.users) (true_is _ (entries_sorted other.users))
+    users_read own far (entries other.users) (is_true _ (entries_sorted other.users))
     (table_named other.users well_other.users_named) room well q
     ∙ ap (told_user (row room.users q)) (sym (get-entries other.users q))
     ∙ sym (both_users room other well well_other q))
@@ -116,7 +117,7 @@ pub channels_introduced : (own : List ℕ) (far : List ℕ → Bool) (room other
     → (reads own far room (user_deeds other)).channels ≡ (room_without room other).channels
 unfolding room_without
 channels_introduced own far room other well well_other =
-    channels_read own far (entries other.users) (true_is _ (entries_sorted other.users))
+    channels_read own far (entries other.users) (is_true _ (entries_sorted other.users))
     (table_named other.users well_other.users_named) room well
     ∙ ap (λ us. quit_all us room.channels) (holders room other well)
     ∙ sym (quit_all_is room collision_text (clash room other))

@@ -8,6 +8,7 @@ use Rattle.std.specs.List.{AllByRecursion}
 use Rattle.std.specs.Option.{option_and_then, option_map_or}
 use Rattle.std.specs.FinMap.{entries, entries_sorted, find, is_sorted}
 use Rattle.std.specs.FinMap.Entries.{below_all}
+use Rattle.irc_names.specs.Lemmas.PlainFacts.{is_true}
 use Rattle.irc_names.specs.Fold.{key}
 use Rattle.irc_names.specs.Tables.{Table, fold_cmp, row, each}
 use Rattle.irc_names.specs.TableLaws.{same_fold, one_fold, row-alter}
@@ -25,7 +26,7 @@ use Rattle.irc_merge.specs.Quits.{quits_of, collision_text}
 use Rattle.irc_merge.specs.Deeds.{does, kills, shown_by, shown_by_all}
 use Rattle.irc_merge.specs.Bursts.{user_deeds}
 use Rattle.irc_merge.specs.Merge.{clash}
-use Rattle.irc_merge.specs.Lemmas.TableWords.{true_is, absent}
+use Rattle.irc_merge.specs.Lemmas.TableWords.{absent}
 use Rattle.irc_merge.specs.Lemmas.ShownReading.{shown_one, shown_reads, shown_reads-one}
 use Rattle.irc_merge.specs.Lemmas.Introducing.{met, met_by, is_met, met_well, introductions}
 use Rattle.irc_merge.specs.Lemmas.Introducing.{under_same, above_apart, other_met, holders}
@@ -191,6 +192,6 @@ pub kills_shown : (viewer own : List ℕ) (far : List ℕ → Bool) (room other 
     → shown_reads viewer own far room (user_deeds other) ≡ shown_along viewer room
     (quits_of collision_text (clash room other))
 kills_shown viewer own far room other well well_other there =
-    users_show viewer own far (entries other.users) (true_is _ (entries_sorted other.users))
+    users_show viewer own far (entries other.users) (is_true _ (entries_sorted other.users))
     (table_named other.users well_other.users_named) room well (λ known. there)
     ∙ ap (λ us. shown_along viewer room (quits_of collision_text us)) (holders room other well)

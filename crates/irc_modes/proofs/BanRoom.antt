@@ -3,10 +3,12 @@
 -- a ban that was there at the start and is taken out leaves room to set it again.
 use Rattle.std.proofs.Common.{◌≡◌, ℕ, ◌+◌, ◌<◌, ◌≤◌, Bool, true, false, cond, not, ◌&&◌, ◌||◌}
 use Rattle.std.proofs.Common.{Option, Some, None, List, [], ◌∷◌, length, filter, get_or, drop, refl}
-use Rattle.std.proofs.Common.{sym, ap, subst, ◌∙◌, suc, arith}
+use Rattle.std.proofs.Common.{sym, ap, subst, ◌∙◌, suc, arith, le_refl, le_of_eq}
 use Rattle.std.proofs.lemmas.List.{drop_more}
 use Rattle.std.specs.List.{list_any, list_all}
 use Rattle.std.specs.Cmp.{first_so, second_so}
+use Rattle.std.proofs.lemmas.Bool.{or_left, or_right}
+use Rattle.irc_names.specs.Lemmas.PlainFacts.{or_swapped}
 use Rattle.irc_names.specs.Fold.{same}
 use Rattle.irc_names.specs.FoldLaws.{same-equivalence}
 use Rattle.irc_modes.specs.declared.modes.ModeChange.{ModeChange}
@@ -73,16 +75,6 @@ alike_le false false a b is h = both_le 1 a b h
 
 -- ---- what is there with a mask and without it
 
-or_right : (a b : Bool) → b ≡ true → (a || b) ≡ true
-or_right true b is = refl
-or_right false b is = is
-
-swap : (a b c : Bool) → (a || (b || c)) ≡ (b || (a || c))
-swap true true c = refl
-swap true false c = refl
-swap false true c = refl
-swap false false c = refl
-
 any_congr : (x m : List ℕ) → same x m ≡ true → (bans : List (List ℕ))
     → list_any (same x) bans ≡ list_any (same m) bans
 any_congr x m is [] = refl
@@ -100,7 +92,8 @@ any_placed m mask (ban ∷ bans) = by (before ban mask) (any_placed m mask bans)
         → list_any (same m) (cond test (ban ∷ placed mask bans) (mask ∷ ban ∷ bans))
         ≡ (same m mask || (same m ban || list_any (same m) bans))
     by true rest =
-        ap (λ b. same m ban || b) rest ∙ swap (same m ban) (same m mask) (list_any (same m) bans)
+        ap (λ b. same m ban || b) rest
+            ∙ or_swapped (same m ban) (same m mask) (list_any (same m) bans)
     by false rest = refl
 
 length_placed : (mask : List ℕ) (bans : List (List ℕ))
@@ -219,9 +212,6 @@ one_more x (m ∷ start) bans less rising others =
     by (same x m) refl (one_more x start bans less
     (second_so (list_all (before m) start) (rises start) rising) others)
   where
-    level_le : (a b : ℕ) → a ≡ b → a ≤ b
-    level_le a b is = omega (arith, is)
-
     by : (test : Bool) → same x m ≡ test → gone start less ≤ gone start bans + 1
         → cond (list_any (same m) less) 0 1 + gone start less
         ≤ (cond (list_any (same m) bans) 0 1 + gone start bans) + 1
@@ -231,7 +221,7 @@ one_more x (m ∷ start) bans less rising others =
         ∙ none_after m start (first_so (list_all (before m) start) (rises start) rising) in
         at_most (list_any (same m) less) (list_any (same m) bans) (gone start less)
         (gone start bans)
-        (level_le (gone start less) (gone start bans) (gone_alike x start bans less none others))
+        (le_of_eq (gone_alike x start bans less none others))
     by false is rest = alike_le (list_any (same m) less) (list_any (same m) bans) (gone start less)
         (gone start bans) (others m is) rest
 
@@ -357,13 +347,10 @@ pub room_before : (start bans : List (List ℕ)) (change : ModeChange) (changes 
 room_before start bans change changes capacity start_rises rising room adds =
     by change.plus (ban_mask change.letter change.word)
     (room_after start bans change changes capacity capacity start_rises rising room
-    (level_with capacity)) adds
+    (le_refl capacity)) adds
   where
     least : (n l g a room : ℕ) → n ≡ suc l → n + g + a ≤ room → l < room
     least n l g a room is h = omega (arith, is, h)
-
-    level_with : (n : ℕ) → n ≤ n
-    level_with n = omega arith
 
     absent : (test : Bool) → (not test && true) ≡ true → test ≡ false
     absent true is = cc
@@ -403,10 +390,6 @@ room_once_out mask bans capacity more room within grown =
         (room none) grown
 
 -- ---- at the start
-
-or_left : (a b : Bool) → a ≡ true → (a || b) ≡ true
-or_left true b is = refl
-or_left false b is = cc
 
 sum_none : (test : Bool) (n : ℕ) → test ≡ true → n ≡ 0 → cond test 0 1 + n ≡ 0
 sum_none true n there none = plain n none

@@ -2,3 +2,4 @@
 pub mod FoldsByRanges
 pub mod CleanNames
 pub mod RuleFacts
+pub mod PlainFacts

@@ -1,9 +1,9 @@
 -- What comes of a call, from what the network has done.
 use Rattle.std.specs.Option.{option_and_then, option_map, option_map_or}
 use Rattle.std.proofs.Common.{◌≡◌, ◌+◌, ◌++◌, ◌∷◌, ◌∙◌, ◌||◌, ◌==◌, not, inl, inr, is_some, min, ℕ}
-use Rattle.std.proofs.Common.{zero, suc, take, drop, length, ◌≤◌, arith, Bool, true, false, Option}
+use Rattle.std.proofs.Common.{zero, suc, take, drop, length, ◌≤◌, Bool, true, false, Option}
 use Rattle.std.proofs.Common.{Some, None, Result, Ok, Err, IsErrAnd, List, [], refl, sym, subst, ap}
-use Rattle.std.proofs.Common.{if◌then◌else◌}
+use Rattle.std.proofs.Common.{if◌then◌else◌, take_all}
 use Rattle.std.specs.List.{slice_get}
 use Rattle.irc_relay.specs.Links.{Name}
 use Rattle.irc_world.specs.Stepping.{Item}
@@ -37,6 +37,7 @@ use Rattle.irc_network.specs.Refusing.{way_fault}
 use Rattle.irc_net.specs.Views.{answers_now, counted_now, delivered_now}
 use Rattle.irc_network.specs.Views.{receipts_of}
 use Rattle.std.specs.Global.{Vec}
+use Rattle.std.proofs.Math.Numerals.{suc-eq-add-one}
 
 -- ---- memory runs out
 
@@ -259,12 +260,8 @@ pub plays_on : {first between last : NetView} (steps : List Step) (answers more 
     → IsStep between step answer last → slice_get steps i ≡ Some step
     → more ≡ answers ++ answer ∷ [] → PlaysSteps first (take (i + 1) steps) more last
 plays_on {first = first} {last = last} steps answers more i step answer plays done is behind =
-    subst (λ n. PlaysSteps first (take n steps) more last) (counted_on i)
+    subst (λ n. PlaysSteps first (take n steps) more last) (suc-eq-add-one i)
     (then_one step answer plays done (taken_on steps i step is) behind)
-  where
-    counted_on : (n : ℕ) → suc n ≡ n + 1
-    counted_on n = omega arith
-
 pub stops : {first between last : NetView} (steps : List Step) (answers : List StepAnswer)
     (i : ℕ) (step : Step) (fault : NetFault) → PlaysSteps first (take i steps) answers between
     → slice_get steps i ≡ Some step → IsStepDone between step (Err fault) last
@@ -289,14 +286,7 @@ pub all_played : {old new : NetView} (steps : List Step) (answers : List StepAns
     → length steps ≤ i → PlaysSteps old (take i steps) answers new
     → ArePlayed old steps (Ok answers) new
 all_played {old = old} {new = new} steps answers i behind plays =
-    calls.plays_them (subst (λ ss. PlaysSteps old ss answers new) (all_taken steps i behind) plays)
-  where
-    all_taken : {X : Type 0} (xs : List X) (n : ℕ) → length xs ≤ n → take n xs ≡ xs
-    all_taken [] zero behind = refl
-    all_taken [] (suc n) behind = refl
-    all_taken (x ∷ xs) zero behind = absurd (omega (arith, behind))
-    all_taken (x ∷ xs) (suc n) behind = ap (λ ys. x ∷ ys) (all_taken xs n (omega (arith, behind)))
-
+    calls.plays_them (subst (λ ss. PlaysSteps old ss answers new) (take_all i steps behind) plays)
 pub play_stops : (old new : NetView) (steps : List Step) (fault : NetFault)
     (r : Result (Vec StepAnswer) NetFault) → IsErrAnd r (λ e. e ≡ fault)
     → StopsAt old steps fault new → ArePlayed old steps (answers_now r) new

@@ -3,7 +3,7 @@ use Rattle.std.proofs.Common.{◌≡◌, ◌≤◌, ◌<◌, ◌+◌, ℕ, zero,
 use Rattle.std.proofs.Common.{◌||◌, not, cond, Option, Some, None, is_some, unwrap_or, List, []}
 use Rattle.std.proofs.Common.{◌∷◌, refl, sym, ◌∙◌, ap, subst, arith, length, map}
 use Rattle.std.proofs.Common.{count_by, if◌then◌else◌}
-use Rattle.std.proofs.lemmas.Bool.{leb-true, or_parts}
+use Rattle.std.proofs.lemmas.Bool.{leb-true, or_parts, and_parts}
 use Rattle.std.proofs.lemmas.List.{length-map}
 use Rattle.std.proofs.lemmas.List.Quantifiers.{position-Some}
 use Rattle.std.proofs.lemmas.List.Sorted.{IsPermutation-map, list_any-IsPermutation}
@@ -126,27 +126,23 @@ all_rules true true true false twice good = absurd (true≢false good)
 all_rules true true true true twice good =
     record { named_so = refl; known_so = refl; dated_so = refl; peered_so = refl }
 
-both : (a b : Bool) → (a && b) ≡ true → (a ≡ true) × (b ≡ true)
-both true b is = (refl, is)
-both false b is = absurd (true≢false (sym is))
-
 passwords_kept : (peers : List Peer) → list_all is_peer peers ≡ true
     → AllByRecursion HasPassword (map known_peer peers)
 passwords_kept [] all = tt
 passwords_kept (peer ∷ peers) all = (
-  (both (is_server peer.name.items) (is_password peer.password.items) now.0).1,
+  (and_parts (is_server peer.name.items) (is_password peer.password.items) now.0).1,
   passwords_kept peers now.1,
 )
   where
     now : (is_peer peer ≡ true) × (list_all is_peer peers ≡ true)
-    now = both (is_peer peer) (list_all is_peer peers) all
+    now = and_parts (is_peer peer) (list_all is_peer peers) all
 
 configured : (config : Config) → is_bad_config config ≡ false → IsConfigured (made_view config)
 configured config good = record {
   name = rules.named_so;
   info = rules.known_so;
   created = leb-true (length config.own.created.items) max_created
-      (both (is_some_text config.own.created.items)
+      (and_parts (is_some_text config.own.created.items)
       (fits max_created config.own.created.items) rules.dated_so).1;
   passwords = passwords_kept config.peers.items rules.peered_so;
 }

@@ -1,6 +1,7 @@
 -- Bytes that come in turn until nothing is on its way.
 use Rattle.std.proofs.Common.{◌≡◌, ℕ, true, zero, suc, ◌+◌, ◌<◌, ◌≤◌, min, List, Option, Some, None}
-use Rattle.std.proofs.Common.{option_map, refl, sym, subst, ◌∙◌, ap, arith}
+use Rattle.std.proofs.Common.{option_map, refl, sym, subst, ◌∙◌, ap, arith, lt-suc_self, le_refl}
+use Rattle.std.proofs.Common.{le_of_eq}
 use Rattle.irc_items.specs.Kept.{TurnLeavesFewer}
 use Rattle.irc_items.specs.Sound.{most_now}
 use Rattle.irc_network.specs.ByteNetwork.{ByteNetwork, progress_in_lines}
@@ -138,12 +139,7 @@ module _ (laws : AreTurning) where
   counted_fewer fewer {first = first} old new counted lines kept turns goes =
       let now = turns_kept laws turns.goes kept in
       leaves_fewer fewer (most_now (net_in_lines first.state)) lines old new now.kept
-      (same (most_now (net_in_lines old.state)) (most_now (net_in_lines first.state))
-      now.keeps.most) goes
-    where
-      same : (a b : ℕ) → a ≡ b → a ≤ b
-      same a b is = omega (arith, is)
-
+      (le_of_eq now.keeps.most) goes
   -- none is left
   pub settles_at : NoByteRests → {first : Progress ByteNetwork} (old new : Progress ByteNetwork)
       (counted : ℕ) → IsKeptSound first.state → GoesCounted counted first old
@@ -218,7 +214,7 @@ module _ (laws : AreTurning) where
       let most = most_now (net_in_lines net) in
       let so =
       settling fewer comes no_byte (suc (lines_left most (progress_in_lines (begun net))))
-      most (begun net) kept (same most) (less _) in
+      most (begun net) kept (le_refl most) (lt-suc_self _) in
       record {
         counted = min so.count max_count;
         receipts = so.last.out;
@@ -233,9 +229,3 @@ module _ (laws : AreTurning) where
           after = refl;
         };
       }
-    where
-      same : (n : ℕ) → n ≤ n
-      same n = omega arith
-
-      less : (n : ℕ) → n < suc n
-      less n = omega arith

@@ -1,7 +1,9 @@
 -- What a network keeps, and what it is to its clients then.
 use Rattle.std.proofs.Common.{◌≡◌, ◌+◌, ◌≤◌, min, ℕ, zero, suc, Bool, true, false, Option, Some}
 use Rattle.std.proofs.Common.{None, List, [], refl, sym, ◌∙◌, ap, subst, arith, if◌then◌else◌}
+use Rattle.std.proofs.Common.{one-add}
 use Rattle.std.specs.Option.{option_and_then, option_map}
+use Rattle.std.proofs.Math.Nat.{min-le_right}
 use Rattle.irc_world.specs.Owed.{owed_by_network}
 use Rattle.irc_world.specs.Stepping.{Item}
 use Rattle.irc_world.specs.World.{Setting, new_world}
@@ -179,9 +181,6 @@ kept_given given_sound waiting as_lines resting net item kept none within =
 
 -- ---- lines that are delivered
 
-at_most : (a b : ℕ) → min a b ≤ b
-at_most a b = omega arith
-
 none_kept : (net : Network) → net.taken ≤ max_count → KeepsItems 0 net net
 none_kept net few =
     record { sound = λ sound. sound; most = refl; taken = no_more_of net.taken max_count few }
@@ -203,10 +202,7 @@ both_kept one other a b c p q = record {
 
 few_now : (count : ℕ) (old new : Network) → KeepsItems count old new → new.taken ≤ max_count
 few_now count old new keeps =
-    subst (λ n. n ≤ max_count) (sym keeps.taken) (at_most (old.taken + count) max_count)
-
-one_more : (n : ℕ) → 1 + n ≡ suc n
-one_more n = omega arith
+    subst (λ n. n ≤ max_count) (sym keeps.taken) (min-le_right (old.taken + count) max_count)
 
 pub deliveries_keep : DeliveryKeepsSound → {from to count : ℕ} {old new : Progress Network}
     → Delivers from to count old new → old.state.taken ≤ max_count
@@ -215,7 +211,7 @@ deliveries_keep law {old = old} no_more few = none_kept old.state few
 deliveries_keep law {from = from} {to = to} {old = old} {new = new}
     (one_first {count = count} {between = between} is rest) few =
     let first = law from to old between is few in
-    subst (λ n. KeepsItems n old.state new.state) (one_more count)
+    subst (λ n. KeepsItems n old.state new.state) (one-add count)
     (both_kept 1 count old.state between.state new.state first
     (deliveries_keep law rest (few_now 1 old.state between.state first)))
 

@@ -3,11 +3,12 @@
 use Rattle.std.proofs.Common.{◌≡◌, ◌≢◌, ℕ, zero, suc, Bool, true, false, cond, is_some, Option}
 use Rattle.std.proofs.Common.{Some, None, List, [], ◌∷◌, ◌++◌, length, nat_eq, refl, sym, ◌∙◌, ap}
 use Rattle.std.proofs.Common.{append-nil, map, option_map, unwrap_or}
-use Rattle.std.proofs.lemmas.Bool.{eq-eqb, eqb-true}
+use Rattle.std.proofs.lemmas.Bool.{eq-eqb, eqb-true, eqb-false}
 use Rattle.std.specs.FinMap.{FinMap, get, insert}
 use Rattle.std.specs.List.{slice_get, slice_set}
 use Rattle.std.specs.Option.{option_and_then, option_map_or}
 use Rattle.std.specs.Ordering.{nat_cmp}
+use Rattle.std.proofs.Math.Nat.{suc_inj}
 use Rattle.irc_server.specs.Served.{ReadEvent, link_says}
 use Rattle.irc_line.specs.Reading.{read_of}
 use Rattle.irc_stage.specs.Lemmas.Numbers.{get-with, one_number, same_number, same_number-refl}
@@ -135,11 +136,7 @@ row_there wires [] place node same at = cc at
 row_there [] (first ∷ nodes) place node same at = cc same
 row_there (row ∷ wires) (first ∷ nodes) zero node same at = (row, refl)
 row_there (row ∷ wires) (first ∷ nodes) (suc place) node same at =
-    row_there wires nodes place node (one_less (length wires) (length nodes) same) at
-  where
-    one_less : (a b : ℕ) → suc a ≡ suc b → a ≡ b
-    one_less a b is = cc is
-
+    row_there wires nodes place node (suc_inj same) at
 wire_here : (wires : Wires) (from to : ℕ) (wire : LinkWire) (row : WireRow)
     → slice_get wires from ≡ Some row → wire_at (with_wire from to wire wires) from to ≡ wire
 wire_here wires from to wire row is =
@@ -149,18 +146,12 @@ wire_here wires from to wire row is =
     (get_set wires from row (put_in to wire row) is)
     ∙ wire_put row to wire to ∙ ap (λ b. cond b wire (wire_in to row)) (eq-eqb to to refl)
 
-not_one : (x y : ℕ) → nat_eq x y ≡ false → x ≢ y
-not_one x y two one = cc (sym (eq-eqb x y one) ∙ two)
-
-one_less : (a b : ℕ) → suc a ≡ suc b → a ≡ b
-one_less a b is = cc is
-
 pub as_many : (nodes : List Node) (wires : Wires) → length wires ≡ length nodes
     → length (rows_written nodes wires) ≡ length nodes
 as_many [] wires long = long
 as_many (node ∷ nodes) [] long = cc long
 as_many (node ∷ nodes) (row ∷ wires) long =
-    ap suc (as_many nodes wires (one_less (length wires) (length nodes) long))
+    ap suc (as_many nodes wires (suc_inj long))
 
 pub map_length : (nodes : List Node) → length (map emptied_node nodes) ≡ length nodes
 map_length [] = refl
@@ -209,7 +200,8 @@ module _ (net : Network) (wires : Wires) (lean : AreLean wires)
       ∙ left_there net place to node lines (lines ++ line ∷ []) at way y two
       ∙ sym (ap (λ n. waiting_at net n y) (eqb-true x place one))
   apart_to x y two false other =
-      left_elsewhere net place to node lines (lines ++ line ∷ []) at way x y (not_one x place other)
+      left_elsewhere net place to node lines (lines ++ line ∷ []) at way x y
+          (eqb-false x place other)
 
   wire_is : (x y : ℕ) → wire_at (with_wire place to now out) x y
       ≡ all_written (waiting_at after_queued x y) (wire_at wires x y)
@@ -223,11 +215,11 @@ module _ (net : Network) (wires : Wires) (lean : AreLean wires)
           is ∙ is_out.wires_are x y
           ∙ sym (ap (λ more. all_written more (wire_at wires x y))
           (left_elsewhere net place to node lines (lines ++ line ∷ []) at way x y
-          (not_one x place apart)))
+          (eqb-false x place apart)))
       by (other_to apart is) =
           is ∙ is_out.wires_are x y
           ∙ sym (ap (λ more. all_written more (wire_at wires x y))
-          (apart_to x y (not_one y to apart) (nat_eq x place) refl))
+          (apart_to x y (eqb-false y to apart) (nat_eq x place) refl))
 
   is_queued : IsWritten after_queued wires
       (record { network = emptied net; wires = with_wire place to now out })

@@ -1,10 +1,11 @@
 -- Where no line is on its way.
-use Rattle.std.proofs.Common.{◌≡◌, ℕ, Bool, true, false, cond, ◌&&◌, ◌||◌, not, Option, Some, None}
+use Rattle.std.proofs.Common.{◌≡◌, ℕ, Bool, true, false, cond, ◌||◌, not, Option, Some, None}
 use Rattle.std.proofs.Common.{List, [], ◌∷◌, ◌++◌, ◌+◌, refl, sym, ◌∙◌, ap, is_some, unwrap_or}
 use Rattle.std.proofs.Common.{zero, suc}
 use Rattle.std.specs.FinMap.{contains_key-keys, get, keys}
 use Rattle.std.specs.List.{find, list_all, list_any, slice_get}
 use Rattle.std.specs.Option.{option_and_then, option_map_or}
+use Rattle.std.proofs.lemmas.Bool.{not-true, and_parts}
 use Rattle.irc_room.specs.Lemmas.Rows.{same_some}
 use Rattle.irc_stage.specs.Lemmas.Numbers.{one_number, same_number}
 use Rattle.irc_network.specs.Network.{Progress, Node, delivered, direction, first_among}
@@ -12,15 +13,6 @@ use Rattle.irc_network.specs.Network.{first_way, given, is_at_rest, is_nothing, 
 use Rattle.irc_network.specs.Network.{Network, waiting, waits}
 use Rattle.irc_network.specs.Laws.{GivenIsKept, RestStays}
 use Rattle.irc_network.proofs.ItemsStay.{same_items}
-
-both : (a b : Bool) → (a && b) ≡ true → (a ≡ true) × (b ≡ true)
-both true true is = (refl, refl)
-both true false is = cc is
-both false b is = cc is
-
-not_true : (b : Bool) → not b ≡ true → b ≡ false
-not_true true is = sym is
-not_true false is = refl
 
 no_lines : (lines : List (List ℕ)) → not (is_nothing lines) ≡ false → lines ≡ []
 no_lines [] is = refl
@@ -62,15 +54,15 @@ quiet_way node to quiet = by (get node.queues to) refl
     by (Some lines) is =
         no_lines (waiting node to)
         (key_passes (waits node) to (keys node.queues) (sym (contains_key-keys node.queues to)
-        ∙ ap is_some is) (not_true _ quiet))
+        ∙ ap is_some is) (not-true _ quiet))
 
 quiet_at : (nodes : List Node) (place : ℕ) → list_all is_quiet nodes ≡ true → (node : Node)
     → slice_get nodes place ≡ Some node → is_quiet node ≡ true
 quiet_at [] place all node is = cc is
 quiet_at (first ∷ nodes) zero all node is = ap is_quiet (sym (same_some first node is))
-    ∙ (both (is_quiet first) (list_all is_quiet nodes) all).0
+    ∙ (and_parts (is_quiet first) (list_all is_quiet nodes) all).0
 quiet_at (first ∷ nodes) (suc place) all node is =
-    quiet_at nodes place (both (is_quiet first) (list_all is_quiet nodes) all).1 node is
+    quiet_at nodes place (and_parts (is_quiet first) (list_all is_quiet nodes) all).1 node is
 
 no_delivery : (progress : Progress Network) → is_at_rest progress.state ≡ true → (from to : ℕ)
     → delivered from to progress ≡ None
@@ -86,15 +78,15 @@ no_delivery progress rest from to = by (slice_get progress.state.nodes from) ref
 -- ---- the first way on which a line waits
 
 quiet_none : (node : Node) → is_quiet node ≡ true → first_way node ≡ None
-quiet_none node quiet = none_found (waits node) (keys node.queues) (not_true _ quiet)
+quiet_none node quiet = none_found (waits node) (keys node.queues) (not-true _ quiet)
 
 no_first : (place : ℕ) (nodes : List Node) → list_all is_quiet nodes ≡ true
     → first_among place nodes ≡ None
 no_first place [] all = refl
 no_first place (node ∷ nodes) all =
     ap (λ o. option_map_or (λ to. Some (direction place to)) o (first_among (place + 1) nodes))
-    (quiet_none node (both (is_quiet node) (list_all is_quiet nodes) all).0)
-    ∙ no_first (place + 1) nodes (both (is_quiet node) (list_all is_quiet nodes) all).1
+    (quiet_none node (and_parts (is_quiet node) (list_all is_quiet nodes) all).0)
+    ∙ no_first (place + 1) nodes (and_parts (is_quiet node) (list_all is_quiet nodes) all).1
 
 pub rest_stays : RestStays
 rest_stays progress rest =

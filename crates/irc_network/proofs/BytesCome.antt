@@ -1,8 +1,8 @@
 -- Bytes that come deliver the lines that they complete, where links carry lines.
-use Rattle.std.proofs.Common.{◌≡◌, ◌≢◌, ℕ, Bool, true, false, cond, is_some, Option, Some, None}
+use Rattle.std.proofs.Common.{◌≡◌, ℕ, Bool, true, false, cond, is_some, Option, Some, None}
 use Rattle.std.proofs.Common.{List, [], ◌∷◌, ◌++◌, length, nat_eq, refl, sym, ◌∙◌, ap, subst}
 use Rattle.std.proofs.Common.{option_map, unwrap_or}
-use Rattle.std.proofs.lemmas.Bool.{eq-eqb, eqb-true}
+use Rattle.std.proofs.lemmas.Bool.{eq-eqb, eqb-true, ne_eqb}
 use Rattle.std.specs.FinMap.{get}
 use Rattle.std.specs.List.{AllByRecursion}
 use Rattle.std.specs.Option.{option_and_then, option_map_or}
@@ -45,13 +45,6 @@ on_it from to lines ahead =
     ap (λ a. if_both a (nat_eq to to) lines (ahead from to)) (eq-eqb from from refl)
     ∙ ap (λ b. cond b lines (ahead from to)) (eq-eqb to to refl)
 
-unlike : (x y : ℕ) → x ≢ y → nat_eq x y ≡ false
-unlike x y two = by (nat_eq x y) refl
-  where
-    by : (b : Bool) → nat_eq x y ≡ b → b ≡ false
-    by true is = absurd (two (eqb-true x y is))
-    by false is = refl
-
 not_to : (a : Bool) (lines other : List (List ℕ)) → if_both a false lines other ≡ other
 not_to true lines other = refl
 not_to false lines other = refl
@@ -61,13 +54,13 @@ left_on : (from to : ℕ) (some rest : List (List ℕ)) (ahead : Ahead)
 left_on from to some rest ahead = record {
   there = on_it from to rest ahead;
   same_from = λ x two.
-      ap (λ b. if_both (nat_eq from from) b rest (ahead from x)) (unlike x to two)
+      ap (λ b. if_both (nat_eq from from) b rest (ahead from x)) (ne_eqb x to two)
       ∙ not_to (nat_eq from from) rest (ahead from x)
-      ∙ sym (ap (λ b. if_both (nat_eq from from) b some (ahead from x)) (unlike x to two)
+      ∙ sym (ap (λ b. if_both (nat_eq from from) b some (ahead from x)) (ne_eqb x to two)
       ∙ not_to (nat_eq from from) some (ahead from x));
   others = λ place two x.
-      ap (λ a. if_both a (nat_eq x to) rest (ahead place x)) (unlike place from two) ∙ sym
-      (ap (λ a. if_both a (nat_eq x to) some (ahead place x)) (unlike place from two));
+      ap (λ a. if_both a (nat_eq x to) rest (ahead place x)) (ne_eqb place from two) ∙ sym
+      (ap (λ a. if_both a (nat_eq x to) some (ahead place x)) (ne_eqb place from two));
 }
 
 -- ---- all that are heard are delivered

@@ -4,6 +4,7 @@ use Rattle.std.proofs.Common.{List, [], ◌∷◌, ◌++◌, refl, sym, ◌∙�
 use Rattle.std.specs.FinMap.{get, insert}
 use Rattle.std.specs.List.{slice_get, slice_set}
 use Rattle.std.specs.Option.{option_and_then}
+use Rattle.std.proofs.Math.Nat.{suc_inj}
 use Rattle.irc_line.specs.Reading.{read_of}
 use Rattle.irc_server.specs.Served.{link_says}
 use Rattle.irc_stage.specs.Lemmas.Numbers.{get-with, one_number, same_number, same_number-refl}
@@ -43,9 +44,6 @@ same_nodes one other (node ∷ nodes) alike = λ i.
 never : (n : ℕ) → suc n ≡ 0 → ⊥
 never n is = cc is
 
-one_before : (n m : ℕ) → suc n ≡ suc m → n ≡ m
-one_before n m is = cc is
-
 set_other : (from : ℕ) (one other : Ahead) (nodes : List Node) (node : Node) → slice_get nodes from
     ≡ Some node → ((place : ℕ) → place ≢ from → (x : ℕ) → other place x ≡ one place x) → slice_set
     (nodes_behind one nodes) from (node_behind (other from) node) ≡ nodes_behind other nodes
@@ -59,7 +57,7 @@ set_other zero one other (first ∷ nodes) node is alike = λ i.
 set_other (suc from) one other (first ∷ nodes) node is alike = λ i.
     same_node (one 0) (other 0) first (λ x. sym (alike 0 (λ e. never from (sym e)) x)) i
     ∷ set_other from (λ n. one (suc n)) (λ n. other (suc n)) nodes node is
-    (λ place two. alike (suc place) (λ e. two (one_before place from e))) i
+    (λ place two. alike (suc place) (λ e. two (suc_inj e))) i
 
 module _ (from to : ℕ) (line : List ℕ) (rest : List (List ℕ)) (ahead now : Ahead)
     (first : ahead from to ≡ line ∷ rest)

@@ -11,6 +11,7 @@ use Rattle.std.specs.FinMap.Entries.{find-where_key, is_sorted-where_key, put}
 use Rattle.std.specs.List.{find as found_by, slice_get, slice_set}
 use Rattle.std.specs.Option.{option_map_or}
 use Rattle.std.specs.Ordering.{nat_cmp}
+use Rattle.irc_names.specs.Lemmas.PlainFacts.{is_true}
 use Rattle.irc_tables.specs.Lemmas.OrderedEntries.{others, others-between, put-there, sorted-above}
 use Rattle.irc_tables.specs.Lemmas.OrderedEntries.{sorted-below}
 use Rattle.irc_stage.specs.Lemmas.Numbers.{one_number, same_number}
@@ -22,10 +23,6 @@ use Rattle.irc_network.specs.Loops.Turning.{bytes_of_entries, bytes_on_way}
 
 abbrev WireRow : Type 0
 WireRow = FinMap nat_cmp LinkWire
-
-told : (b : Bool) → T b → b ≡ true
-told true h = refl
-told false h = absurd h
 
 -- ---- in a row
 
@@ -105,7 +102,7 @@ row_fewer row to wire after is less = by (is_still after)
     listed = is_listed (entries row) to wire (sym (get-entries row to) ∙ is)
 
     sorted : is_sorted nat_cmp (listed.front ++ (to, wire) ∷ listed.back) ≡ true
-    sorted = ap (is_sorted nat_cmp) (sym listed.is) ∙ told _ (entries_sorted row)
+    sorted = ap (is_sorted nat_cmp) (sym listed.is) ∙ is_true _ (entries_sorted row)
 
     all_is : bytes_of_entries (entries row) ≡ bytes_of_entries listed.front
         + (length wire.bytes + bytes_of_entries listed.back)

@@ -1,9 +1,9 @@
 -- The first way on which a line waits is the first direction in which a byte is on its way, where
 -- only bytes bring lines.
-use Rattle.std.proofs.Common.{◌≡◌, ℕ, suc, ◌+◌, ◌<◌, Bool, true, false, not, ◌||◌, cond, T, is_some}
+use Rattle.std.proofs.Common.{◌≡◌, ℕ, suc, ◌+◌, ◌<◌, Bool, true, false, not, ◌||◌, cond, is_some}
 use Rattle.std.proofs.Common.{Option, Some, None, List, [], ◌∷◌, ◌++◌, length, map, refl, sym, ◌∙◌}
 use Rattle.std.proofs.Common.{ap, subst, arith, option_map, unwrap_or}
-use Rattle.std.proofs.lemmas.Bool.{and_parts}
+use Rattle.std.proofs.lemmas.Bool.{and_parts, or_right}
 use Rattle.std.specs.declared.cmp.Ordering.{Ordering}
 use Rattle.std.specs.declared.cmp.Ordering.TheVariants.{Less, Equal, Greater}
 use Rattle.std.specs.Prelude.{⊤}
@@ -13,6 +13,7 @@ use Rattle.std.specs.FinMap.Entries.{below_all, is_sorted}
 use Rattle.std.specs.List.{find, list_any, slice_get}
 use Rattle.std.specs.Option.{option_and_then, option_map_or}
 use Rattle.std.specs.Ordering.{MatchOrdering, is_lt, nat_cmp}
+use Rattle.irc_names.specs.Lemmas.PlainFacts.{is_true}
 use Rattle.irc_stage.specs.Lemmas.Numbers.{one_number, same_number, same_number-refl}
 use Rattle.irc_network.specs.Network.{Node, direction, first_among}
 use Rattle.irc_network.specs.Network.{first_way, is_nothing, waiting, waits}
@@ -37,10 +38,6 @@ record IsFirst (test : ℕ → Bool) (numbers : List ℕ) (to : ℕ) : Type 0 wh
   there : has_number to numbers ≡ true
   passes : test to ≡ true
   before : (x : ℕ) → x < to → has_number x numbers ≡ true → test x ≡ false
-
-or_later : (b later : Bool) → later ≡ true → (b || later) ≡ true
-or_later true later is = refl
-or_later false later is = is
 
 is_first : (test : ℕ → Bool) (numbers : List ℕ) (to : ℕ) → Rise numbers
     → find test numbers ≡ Some to → IsFirst test numbers to
@@ -69,7 +66,7 @@ is_first test (n ∷ numbers) to rise found = by (test n) refl (is_first test nu
     by false fails later is =
         let first = later is in
         record {
-          there = or_later (same_number to n) (has_number to numbers) first.there;
+          there = or_right (same_number to n) (has_number to numbers) first.there;
           passes = first.passes;
           before = λ x less. first_fails fails x (first.before x less) (same_number x n) refl;
         }
@@ -92,7 +89,7 @@ first_found test (n ∷ numbers) to rise first =
       there = is;
       passes = first.passes;
       before = λ x less there. first.before x less
-          (or_later (same_number x n) (has_number x numbers) there);
+          (or_right (same_number x n) (has_number x numbers) there);
     })
 
 none_passes : (test : ℕ → Bool) (numbers : List ℕ) → find test numbers ≡ None → (x : ℕ)
@@ -124,10 +121,6 @@ below x y is = by (nat_cmp x y) (ranks x y) is
     by Equal same is = cc is
     by Greater more is = cc is
 
-told : (b : Bool) → T b → b ≡ true
-told true is = refl
-told false is = absurd is
-
 module _ {X : Type 0} where
   all_above : (n : ℕ) (es : List (ℕ × X)) → below_all nat_cmp n es ≡ true → (x : ℕ)
       → has_number x (map (λ e. e.0) es) ≡ true → n < x
@@ -150,7 +143,7 @@ module _ {X : Type 0} where
       (all_above e.0 es parts.0, rise_of es parts.1)
 
   keys_rise : (m : FinMap nat_cmp X) → Rise (keys m)
-  keys_rise m = rise_of (entries m) (told (is_sorted nat_cmp (entries m)) (entries_sorted m))
+  keys_rise m = rise_of (entries m) (is_true (is_sorted nat_cmp (entries m)) (entries_sorted m))
 
 -- ---- a row of wires, and the node that they are from
 

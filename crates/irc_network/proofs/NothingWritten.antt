@@ -1,5 +1,5 @@
 -- A turn that completes no line changes the wires alone.
-use Rattle.std.proofs.Common.{◌≡◌, ℕ, suc, Bool, true, false, cond, T, Option, Some, None, List, []}
+use Rattle.std.proofs.Common.{◌≡◌, ℕ, suc, Bool, true, false, cond, Option, Some, None, List, []}
 use Rattle.std.proofs.Common.{◌∷◌, length, nat_eq, refl, sym, ◌∙◌, ap, subst, unwrap_or}
 use Rattle.std.proofs.Common.{if◌then◌else◌, map}
 use Rattle.std.proofs.lemmas.Bool.{and_parts, eqb-true}
@@ -10,6 +10,7 @@ use Rattle.std.specs.FinMap.Entries.{below_all}
 use Rattle.std.specs.List.{AllByRecursion, slice_get}
 use Rattle.std.specs.Option.{option_map, option_map_or}
 use Rattle.std.specs.Ordering.{nat_cmp}
+use Rattle.irc_names.specs.Lemmas.PlainFacts.{is_true}
 use Rattle.irc_stage.specs.Lemmas.Numbers.{one_number, same_number, same_number-refl}
 use Rattle.irc_tables.specs.Lemmas.OrderedEntries.{above-is, find-above}
 use Rattle.irc_network.specs.Network.{Progress, Network, Node, waiting}
@@ -109,14 +110,10 @@ none_listed (way ∷ ways) sorted none =
         (sym (above-is nat_cmp_total way.0 ways) ∙ parts.0))
     rest to false two is = is
 
-told : (b : Bool) → T b → b ≡ true
-told true h = refl
-told false h = absurd h
-
 ways_none : (node : Node) → ((to : ℕ) → waiting node to ≡ [])
     → AllByRecursion HasNone (entries node.queues)
 ways_none node none =
-    none_listed (entries node.queues) (told _ (entries_sorted node.queues))
+    none_listed (entries node.queues) (is_true _ (entries_sorted node.queues))
     (λ to. ap (λ o. unwrap_or o []) (sym (get-entries node.queues to)) ∙ none to)
 
 rows_alone : (nodes : List Node) (wires : Wires)

@@ -1,11 +1,12 @@
 -- What stands at a place, and what is put there.
-use Rattle.std.proofs.Common.{◌≡◌, ◌≤◌, ◌<◌, ℕ, zero, suc, Option, Some, None, Result, Ok, Err}
+use Rattle.std.proofs.Common.{◌≡◌, ◌<◌, ℕ, zero, suc, Option, Some, None, Result, Ok, Err}
 use Rattle.std.proofs.Common.{OnErr, OnOk, List, [], ◌∷◌, ◌++◌, refl, sym, ◌∙◌, ap, arith, length}
 use Rattle.std.proofs.Common.{is_some}
 use Rattle.std.specs.Borrow.{Bor}
 use Rattle.std.proofs.lemmas.List.{map-append}
 use Rattle.std.specs.List.{slice_get, slice_set}
 use Rattle.std.specs.Option.{option_copied, option_map_or}
+use Rattle.std.proofs.lemmas.Option.{same_Some}
 use Rattle.irc_forest.specs.Forests.{Forest}
 use Rattle.irc_relay.specs.Links.{Name}
 use Rattle.irc_network.specs.declared.receipt.Receipt.{Receipt as KeptReceipt}
@@ -33,11 +34,6 @@ abbrev pub whole : Forest → List Node → Wires → List Name → Past → ℕ
 whole forest nodes wires homes past taken =
     record { network = seen forest nodes homes past taken; wires = wires }
 
-pub none_here : {X : Type 0} (xs : List X) (i : ℕ) → length xs ≤ i → slice_get xs i ≡ None
-none_here [] i behind = refl
-none_here (y ∷ xs) zero behind = absurd (omega (arith, behind))
-none_here (y ∷ xs) (suc i) behind = none_here xs i (omega (arith, behind))
-
 pub some_copied : {X : Type 0} (o : Option (Bor X)) → is_some o ≡ is_some (option_copied o)
 some_copied None = refl
 some_copied (Some x) = refl
@@ -51,10 +47,7 @@ not_none (y ∷ xs) (suc i) none within = not_none xs i none (omega (arith, with
 pub set_again : {X : Type 0} (xs : List X) (i : ℕ) (x : X) → slice_get xs i ≡ Some x
     → slice_set xs i x ≡ xs
 set_again [] i x is = refl
-set_again (y ∷ xs) zero x is = ap (λ z. z ∷ xs) (sym (given_some y x is))
-  where
-    given_some : {X : Type 0} (y x : X) → Some y ≡ Some x → y ≡ x
-    given_some y x is = cc is
+set_again (y ∷ xs) zero x is = ap (λ z. z ∷ xs) (sym (same_Some y x is))
 set_again (y ∷ xs) (suc i) x is = ap (λ zs. y ∷ zs) (set_again xs i x is)
 
 -- ---- a line is received

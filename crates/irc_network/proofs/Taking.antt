@@ -3,6 +3,7 @@ use Rattle.std.proofs.Common.{◌≡◌, ◌+◌, ◌<◌, ℕ, Option, Some, No
 use Rattle.std.proofs.Common.{◌∙◌, ap, zero, suc, arith, length, take}
 use Rattle.std.specs.List.{slice_get}
 use Rattle.std.specs.Option.{option_map_or}
+use Rattle.std.proofs.Math.Numerals.{suc-eq-add-one}
 use Rattle.irc_server.specs.Served.{ReadEvent}
 use Rattle.irc_stage.specs.View.{View}
 use Rattle.irc_network.specs.Node.{Replies}
@@ -32,11 +33,7 @@ pub one_more_sent : (place : ℕ) (out : List Sent) (i : ℕ) (progress : Progre
     → i < length out → sent_at place (slice_get out i) (all_sent_out place (take i out) progress)
     ≡ all_sent_out place (take (i + 1) out) progress
 one_more_sent place out i progress within = next_sent place out i progress within
-    ∙ ap (λ n. all_sent_out place (take n out) progress) (behind i)
-  where
-    behind : (n : ℕ) → suc n ≡ n + 1
-    behind n = omega arith
-
+    ∙ ap (λ n. all_sent_out place (take n out) progress) (suc-eq-add-one i)
 -- ---- a server is asked
 
 pub asked_nowhere : (place : ℕ) (read_event : ReadEvent) (progress : Progress Network)

@@ -8,6 +8,7 @@ use Rattle.std.specs.Cmp.{nat_cmp_total, unsigned_tied}
 use Rattle.std.specs.FinMap.{get, get-insert, get-remove, remove, retain_keys}
 use Rattle.std.specs.List.{flat_map}
 use Rattle.std.specs.Option.{option_map_or}
+use Rattle.irc_names.specs.Lemmas.PlainFacts.{none_if_not_some, nat_eq-turned}
 use Rattle.irc_batch.specs.Batches.{Sent, end_of, end_of_link, line_to}
 use Rattle.irc_batch.specs.declared.close_reason.CloseReason.TheVariants as reason
 use Rattle.irc_names.specs.Fold.{key}
@@ -54,7 +55,6 @@ use Rattle.irc_server.specs.LinkServed.{opening_parts, owes}
 use Rattle.irc_server.specs.Served.{of_client, link_up, link_says, link_down, served}
 use Rattle.irc_numbers.specs.EndsLast.{NothingIsBehindAnEnd, ends_last}
 use Rattle.irc_numbers.specs.ServedAlike.{client_part}
-use Rattle.irc_numbers.proofs.Numbers.{turned}
 use Rattle.irc_numbers.proofs.Parts.{chosen_part, client_part-append, to_no_client}
 
 abbrev Share : Type 0
@@ -83,10 +83,6 @@ lines_last : (part : Share) → has_end part ≡ false → ends_last part ≡ tr
 lines_last [] is = refl
 lines_last (Some line ∷ part) is = lines_last part is
 lines_last (None ∷ part) is = cc is
-
-none_of : {X : Type 0} (o : Option X) → is_some o ≡ false → o ≡ None
-none_of None is = refl
-none_of (Some x) is = cc is
 
 -- an effect leaves each client one
 as_there : (effect : Effect) (clients : Clients) (k : ℕ)
@@ -200,7 +196,7 @@ module _ (conn : ℕ) where
   effect_puts view effect = by (is_elsewhere view effect)
     where
       stays : get view.clients conn ≡ None → get (clients_after effect view.clients) conn ≡ None
-      stays none = none_of (get (clients_after effect view.clients) conn)
+      stays none = none_if_not_some (get (clients_after effect view.clients) conn)
           (as_there effect view.clients conn ∙ ap is_some none)
 
       by : (b : Bool) → Puts view (if b then []
@@ -453,7 +449,7 @@ module _ (conn : ℕ) where
         left_is : get (remove s.state.clients client) conn ≡ cond (nat_eq client conn) None
             (get s.state.clients conn)
         left_is = get-remove nat_cmp_total s.state.clients client conn ∙ ap (λ b. cond b None
-            (get s.state.clients conn)) (unsigned_tied conn client ∙ turned conn client)
+            (get s.state.clients conn)) (unsigned_tied conn client ∙ nat_eq-turned conn client)
 
         stays : get s.state.clients conn ≡ None → get (remove s.state.clients client) conn ≡ None
         stays none =

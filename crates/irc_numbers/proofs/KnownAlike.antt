@@ -9,6 +9,7 @@ use Rattle.std.specs.Cmp.Lexicographic.{pointwise}
 use Rattle.std.specs.FinMap.{values}
 use Rattle.std.specs.List.{insert, prefix_len, range_with_len}
 use Rattle.std.specs.Option.{option_and_then, option_map_or}
+use Rattle.irc_names.specs.Lemmas.PlainFacts.{nat_eq-turned}
 use Rattle.irc_names.specs.Names.{is_server}
 use Rattle.irc_names.specs.Tables.{each, row}
 use Rattle.irc_names.specs.TableLaws.{row-each, same_table, values-each}
@@ -37,7 +38,7 @@ use Rattle.irc_routes.specs.Known.{smallest_free_in, token_in, token_out}
 use Rattle.irc_routes.specs.Limits.{first_token, max_servers, own_token}
 use Rattle.irc_stage.specs.Linked.{is_taken}
 use Rattle.irc_numbers.specs.Alike.{AreApart, AreRowsAlike, Numbers}
-use Rattle.irc_numbers.proofs.Numbers.{same_one, turned}
+use Rattle.irc_numbers.proofs.Numbers.{same_one}
 
 pub record AreKnownAlike (numbers : Numbers) (own other : Known) : Type 0 where
   pub name : other.name ≡ own.name
@@ -309,7 +310,8 @@ module _ (numbers : Numbers) (own other : Known) (alike : AreKnownAlike numbers 
         by None (Some theirs) is = absurd is
         by (Some mine) None is = absurd is
         by (Some mine) (Some theirs) is =
-            turned place theirs.link ∙ same_link theirs.link mine.link is.1 ∙ turned mine.link conn
+            nat_eq-turned place theirs.link ∙ same_link theirs.link mine.link is.1
+                ∙ nat_eq-turned mine.link conn
 
     pub token_same : (token : ℕ) → token_in other place token ≡ token_in own conn token
     token_same token =

@@ -7,6 +7,7 @@ use Rattle.std.proofs.Math.Path.{fun_ext}
 use Rattle.std.specs.FinMap.{keys}
 use Rattle.std.specs.List.{AllByRecursion, list_any}
 use Rattle.std.specs.Option.{option_map_or}
+use Rattle.std.proofs.lemmas.Option.{same_Some}
 use Rattle.irc_line.specs.declared.reading.LineFault.{LineFault}
 use Rattle.irc_line.specs.declared.reading.LineFault.TheVariants as fault
 use Rattle.irc_line.specs.Messages.{Parsed}
@@ -39,7 +40,6 @@ use Rattle.irc_numbers.specs.Meaning.{LinesAreHeardAlike}
 use Rattle.irc_numbers.proofs.Effects.{known_of}
 use Rattle.irc_numbers.proofs.KnownAlike.{AreKnownAlike, behind_same, distance_same, full_same}
 use Rattle.irc_numbers.proofs.KnownAlike.{known_same, token_same}
-use Rattle.irc_numbers.proofs.Numbers.{inside}
 
 module _ (numbers : Numbers) (own other : View) (place conn : ℕ) (apart : AreApart numbers)
     (alike : AreAlike numbers own other)
@@ -143,7 +143,7 @@ module _ (numbers : Numbers) (own other : View) (place conn : ℕ) (apart : AreA
       by : (b : Bool) → (find (λ (s : BurstRow). is_command s.command message.command) rows ≡ Some r
           → JudgesAlike r) → cond b (Some first) (find
           (λ (s : BurstRow). is_command s.command message.command) rows) ≡ Some r → JudgesAlike r
-      by true later is = subst JudgesAlike (inside first r is) all.0
+      by true later is = subst JudgesAlike (same_Some first r is) all.0
       by false later is = later is
 
   read_same : (message : Parsed) (found : Option BurstRow) → burst_row_of message.command ≡ found

@@ -1,24 +1,13 @@
 -- Numbers that are one, and maps whose numbers are others.
 use Rattle.std.proofs.Common.{◌≡◌, ℕ, Bool, true, false, cond, is_some, nat_eq, Option, Some, None}
-use Rattle.std.proofs.Common.{refl, sym, ◌∙◌, ap, unwrap_or}
+use Rattle.std.proofs.Common.{refl, sym, ◌∙◌, ap}
 use Rattle.std.proofs.lemmas.Bool.{eq-eqb, eqb-true}
 use Rattle.std.specs.Cmp.{nat_cmp_total, unsigned_tied}
 use Rattle.std.specs.FinMap.{FinMap, get, get-insert, get-remove, insert, remove}
 use Rattle.std.specs.Option.{option_and_then}
 use Rattle.std.specs.Ordering.{eq_by_cmp, nat_cmp}
+use Rattle.std.proofs.lemmas.Option.{same_Some}
 use Rattle.irc_numbers.specs.Alike.{IsAmong}
-
-pub turned : (a b : ℕ) → nat_eq a b ≡ nat_eq b a
-turned a b = by (nat_eq a b) (nat_eq b a) refl refl
-  where
-    by : (x y : Bool) → nat_eq a b ≡ x → nat_eq b a ≡ y → x ≡ y
-    by true true one other = refl
-    by true false one other = sym (eq-eqb b a (sym (eqb-true a b one))) ∙ other
-    by false true one other = sym one ∙ eq-eqb a b (sym (eqb-true b a other))
-    by false false one other = refl
-
-pub inside : {A : Type 0} (x y : A) → Some x ≡ Some y → x ≡ y
-inside x y is = ap (λ o. unwrap_or o x) is
 
 -- ---- maps whose numbers are others
 
@@ -33,7 +22,7 @@ module _ (number : ℕ → Option ℕ) (apart : (one other conn : ℕ) → numbe
       by true true same too = refl
       by false false same too = refl
       by true false same too = cc (sym (eq-eqb mine conn
-          (inside mine conn (sym is ∙ ap number (eqb-true theirs one same) ∙ at))) ∙ too)
+          (same_Some mine conn (sym is ∙ ap number (eqb-true theirs one same) ∙ at))) ∙ too)
       by false true same too = cc (sym (eq-eqb theirs one
           (apart theirs one conn (is ∙ ap Some (eqb-true mine conn too)) at)) ∙ same)
 

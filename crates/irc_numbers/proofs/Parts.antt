@@ -12,6 +12,7 @@ use Rattle.std.specs.FinMap.Entries.{below_all, is_sorted}
 use Rattle.std.specs.List.{cons_option, flat_map}
 use Rattle.std.specs.Option.{option_map_or}
 use Rattle.std.specs.Ordering.{nat_cmp}
+use Rattle.irc_names.specs.Lemmas.PlainFacts.{nat_eq-turned}
 use Rattle.irc_line.specs.Messages.{Written, text}
 use Rattle.irc_tables.specs.Lemmas.OrderedEntries.{above-is, find-above}
 use Rattle.irc_batch.specs.declared.close_reason.CloseReason.{CloseReason}
@@ -23,7 +24,6 @@ use Rattle.irc_stage.specs.declared.clients.Client.{Client}
 use Rattle.irc_stage.specs.EffectTold.{on_links}
 use Rattle.irc_stage.specs.RoomMachine.{Clients}
 use Rattle.irc_numbers.specs.ServedAlike.{by_link, client_part, link_part, to_client}
-use Rattle.irc_numbers.proofs.Numbers.{turned}
 
 -- ---- one list behind another
 
@@ -36,10 +36,6 @@ pub link_part-append : (conn : ℕ) (one other : List Sent)
 link_part-append conn one other = flat_map-append (by_link conn) one other
 
 -- ---- one entry of a map
-
-told : (b : Bool) → T b → b ≡ true
-told true h = refl
-told false h = absurd h
 
 none_behind : {V : Type 0} (e : ℕ × V) (es : List (ℕ × V)) → T (is_sorted nat_cmp (e ∷ es))
     → find nat_cmp e.0 es ≡ None
@@ -69,7 +65,7 @@ module _ {V B : Type 0} (tells : ℕ → V → List B) (conn : ℕ) (elsewhere :
   one_tells (e ∷ es) rise =
       by (nat_eq e.0 conn) refl (one_tells es (rises e es rise))
       ∙ sym (ap (λ b. option_map_or (tells conn) (cond b (Some e.1) (find nat_cmp conn es)) [])
-      (unsigned_tied conn e.0 ∙ turned conn e.0))
+      (unsigned_tied conn e.0 ∙ nat_eq-turned conn e.0))
     where
       by : (b : Bool) → nat_eq e.0 conn ≡ b → flat_map (λ (e : ℕ × V). tells e.0 e.1) es
           ≡ option_map_or (tells conn) (find nat_cmp conn es) []

@@ -11,6 +11,7 @@ use Rattle.std.specs.FinMap.{keys, len, len-entries, len-insert, values}
 use Rattle.std.specs.List.{cons_option}
 use Rattle.std.specs.Ordering.{eq_by_cmp, nat_cmp}
 use Rattle.std.specs.Prelude.{⊤}
+use Rattle.irc_names.specs.Lemmas.PlainFacts.{nat_eq-turned}
 use Rattle.irc_routes.specs.declared.server_row.ServerRow.{ServerRow}
 use Rattle.irc_routes.specs.Known.{Known, by_name, itself, known_server, link_key, links_of}
 use Rattle.irc_routes.specs.Known.{next_hop, others, place_of, row_of, server_table}
@@ -18,7 +19,7 @@ use Rattle.irc_routes.specs.Place.{KnownServer}
 use Rattle.irc_tables.specs.FoldedRows.{table_of}
 use Rattle.irc_numbers.specs.Alike.{AreApart, AreRowsAlike, IsAmong, Numbers}
 use Rattle.irc_numbers.proofs.KnownAlike.{AreKnownAlike, others_by}
-use Rattle.irc_numbers.proofs.Numbers.{same_one, turned}
+use Rattle.irc_numbers.proofs.Numbers.{same_one}
 
 -- ---- lists of links
 
@@ -52,9 +53,9 @@ module _ (numbers : Numbers) (apart : AreApart numbers) where
     where
       same_end : eq_by_cmp nat_cmp place theirs ≡ eq_by_cmp nat_cmp conn mine
       same_end =
-          unsigned_tied place theirs ∙ turned place theirs
+          unsigned_tied place theirs ∙ nat_eq-turned place theirs
           ∙ same_one numbers.link apart.links place conn at theirs mine linked.0
-          ∙ turned mine conn
+          ∙ nat_eq-turned mine conn
           ∙ sym (unsigned_tied conn mine)
 
   -- a number that is no link's is not among them

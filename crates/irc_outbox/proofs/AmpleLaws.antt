@@ -1,13 +1,15 @@
 -- The memory for what connections give and take suffices before each step and behind it.
 use Rattle.std.proofs.Common.{◌≡◌, ℕ, ◌+◌, ◌-◌, ◌^◌, ◌≤◌, min, Bool, true, false, cond, nat_eq}
 use Rattle.std.proofs.Common.{vec_capacity, is_some, IsSome, IfSome, Option, Some, None, List, []}
-use Rattle.std.proofs.Common.{◌∷◌, ◌++◌, length, drop, refl, sym, ◌∙◌, ap, subst, arith}
+use Rattle.std.proofs.Common.{◌∷◌, ◌++◌, length, drop, refl, sym, ◌∙◌, ap, subst, arith, le_refl}
+use Rattle.std.proofs.Common.{le-add_right}
 use Rattle.std.specs.Option.{option_map}
 use Rattle.std.specs.Ordering.{nat_cmp}
 use Rattle.std.specs.BTreeMap.{BTreeMap, UpdatesBy, get_by}
 use Rattle.std.proofs.lemmas.Bool.{eqb-true, eq-eqb}
 use Rattle.std.proofs.lemmas.List.{length-append, length-drop}
 use Rattle.std.proofs.lemmas.List.Sums.{sum_by-cons, sum_by_push}
+use Rattle.std.proofs.Math.Nat.{min-le_left}
 use Rattle.irc_outbox.specs.declared.memory.Far.{Far}
 use Rattle.irc_outbox.specs.declared.memory.WireStep.{WireStep}
 use Rattle.irc_outbox.specs.declared.memory.WireStep.TheVariants as step
@@ -101,9 +103,6 @@ ample_after conn change old new hand hand_then bytes bytes_then left left_then o
     by q false e = others_ample q (far_at old q) hand hand_then bytes bytes_then left left_then
         (less q) (fewer_out q) (all q)
 
-le_refl : (n : ℕ) → n ≤ n
-le_refl n = omega arith
-
 -- a change that leaves how much a connection holds, and its room
 pub record LeavesCounts (t u : WireTold) : Type 0 where
   pub taken : u.taken ≡ t.taken
@@ -154,23 +153,17 @@ hand_within q (step.ReadFails conn) bytes fits = le_refl 0
 hand_within q (step.Room conn room) bytes fits = le_refl 0
 hand_within q (step.WriteFails conn) bytes fits = le_refl 0
 
-le_more : (n m : ℕ) → n ≤ n + m
-le_more n m = omega arith
-
-min_within : (a b : ℕ) → min a b ≤ a
-min_within a b = omega arith
-
 room_then : (step : WireStep) (t : WireTold)
     → (told_then step t).room ≤ t.room + grants_to (step_conn step) step
 room_then (step.Room conn room) t =
     subst (λ b. min (t.room + room) (2 ^ 64 - 1) ≤ t.room + cond b room 0)
-    (sym (eq-eqb conn conn refl)) (min_within (t.room + room) (2 ^ 64 - 1))
-room_then (step.Client conn host) t = le_more t.room 0
-room_then (step.Linked conn name) t = le_more t.room 0
-room_then (step.Bytes conn bytes) t = le_more t.room 0
-room_then (step.End conn) t = le_more t.room 0
-room_then (step.ReadFails conn) t = le_more t.room 0
-room_then (step.WriteFails conn) t = le_more t.room 0
+    (sym (eq-eqb conn conn refl)) (min-le_left (t.room + room) (2 ^ 64 - 1))
+room_then (step.Client conn host) t = le-add_right t.room 0
+room_then (step.Linked conn name) t = le-add_right t.room 0
+room_then (step.Bytes conn bytes) t = le-add_right t.room 0
+room_then (step.End conn) t = le-add_right t.room 0
+room_then (step.ReadFails conn) t = le-add_right t.room 0
+room_then (step.WriteFails conn) t = le-add_right t.room 0
 
 room_met : (step : WireStep) (t : WireTold)
     → (meets step t).room ≤ t.room + grants_to (step_conn step) step
@@ -178,7 +171,7 @@ room_met step t = by (is_reported step t)
   where
     by : (b : Bool) → (cond b (told_then step t) t).room ≤ t.room + grants_to (step_conn step) step
     by true = room_then step t
-    by false = le_more t.room (grants_to (step_conn step) step)
+    by false = le-add_right t.room (grants_to (step_conn step) step)
 
 in_by : (a b c d e f : ℕ) → d ≤ b + e → f ≡ e + c → a + d + c ≤ a + b + f
 in_by a b c d e f less sum = omega (arith, less, sum)
@@ -232,7 +225,7 @@ pub ample_passed : (step : WireStep) (old new : BTreeMap ℕ Far) (hand : Option
     → IsAmple old hand bytes (step ∷ rest) → IsAmple new hand bytes rest
 ample_passed step old new hand bytes rest =
     met step old new hand hand bytes bytes rest
-    (λ q. le_more (at_hand q hand bytes) (gives_of q step))
+    (λ q. le-add_right (at_hand q hand bytes) (gives_of q step))
 
 more_le : (n m k : ℕ) → n ≤ k → n ≤ m + k
 more_le n m k h = omega (arith, h)

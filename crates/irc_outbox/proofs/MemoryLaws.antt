@@ -1,8 +1,8 @@
 -- What a wire in memory tells follows the account of its calls.
 use Rattle.std.proofs.Common.{◌≡◌, ℕ, ◌≤◌, Bool, true, false, ◌||◌, cond, nat_eq, is_some, IsSome}
 use Rattle.std.proofs.Common.{IfSome, Option, Some, None, Result, Ok, Err, OnOk, List, [], ◌∷◌}
-use Rattle.std.proofs.Common.{◌++◌, length, take, drop, vec_capacity, refl, sym, arith, ◌∙◌, ap}
-use Rattle.std.proofs.Common.{subst, append-nil}
+use Rattle.std.proofs.Common.{◌++◌, length, take, drop, vec_capacity, refl, sym, ◌∙◌, ap}
+use Rattle.std.proofs.Common.{subst, append-nil, le_refl}
 use Rattle.std.specs.List.{list_any}
 use Rattle.std.specs.Global.{Vec}
 use Rattle.std.specs.Option.{option_map}
@@ -14,6 +14,8 @@ use Rattle.std.proofs.lemmas.Bool.{eq-eqb, eqb-true}
 use Rattle.std.proofs.lemmas.Grind.{flat_map-append}
 use Rattle.std.proofs.lemmas.List.{take-append-drop, take-append-le}
 use Rattle.std.proofs.lemmas.List.Folds.{list_any-append}
+use Rattle.std.proofs.Math.Bool.{or-true, or-false}
+use Rattle.irc_names.specs.Lemmas.PlainFacts.{same_either_way}
 use Rattle.irc_outbox.specs.declared.memory.Far.{Far}
 use Rattle.irc_outbox.specs.declared.wire.IoFault.{IoFault}
 use Rattle.irc_outbox.specs.declared.wire.Ready.{Ready}
@@ -42,12 +44,6 @@ pub record IsAlike (t u : WireTold) : Type 0 where
 abbrev pub KeepsTold : (WireTold → WireTold) → Type 0
 KeepsTold change = (t : WireTold) → IsAlike (change t) t
 
-one_number : (a b : ℕ) → nat_eq a b ≡ true → a ≡ b
-one_number a b same = eqb-true a b same
-
-nat_eq-refl : (a : ℕ) → nat_eq a a ≡ true
-nat_eq-refl a = eq-eqb a a refl
-
 -- numbers are one by their order just where they are equal
 pub by_order : (a b : ℕ) → is_eq (nat_cmp a b) ≡ nat_eq a b
 by_order a b = by (is_eq (nat_cmp a b)) refl (nat_eq a b) refl
@@ -58,7 +54,7 @@ by_order a b = by (is_eq (nat_cmp a b)) refl (nat_eq a b) refl
     by true e false f =
         sym (eq-eqb a b (nat_cmp-IsAntisymmetric a b ((Equal-is (nat_cmp a b)).0 e))) ∙ f
     by false e true f =
-        sym e ∙ ap (λ n. is_eq (nat_cmp n b)) (one_number a b f)
+        sym e ∙ ap (λ n. is_eq (nat_cmp n b)) (eqb-true a b f)
         ∙ (eq_by_cmp_equiv nat_cmp_total).refl b
 
 pub changed : (conn : ℕ) (change : WireTold → WireTold)
@@ -76,9 +72,6 @@ pub front_of_front : (n m : ℕ) (bytes : List ℕ) → n ≤ length (take m byt
     → take n (take m bytes) ≡ take n bytes
 front_of_front n m bytes within = sym (take-append-le n (take m bytes) (drop m bytes) within)
     ∙ ap (take n) (take-append-drop m bytes)
-
-le_refl : (n : ℕ) → n ≤ n
-le_refl n = omega arith
 
 pub same_memory : (far : Far) → KeepsMemory far (record far { closed = true })
 same_memory far = record {
@@ -113,7 +106,7 @@ told_on conn change old new calls more here others (no_far none same) all = λ q
     by : (q : ℕ) (f : Option Far) → far_at old q ≡ f → (t : Bool) → nat_eq conn q ≡ t
         → IsToldAt q f calls → IsToldAt q f (calls ++ more)
     by q None was t e is = tt
-    by q (Some far) was true e is = let absent = ap (far_at old) (one_number conn q e) in cc
+    by q (Some far) was true e is = let absent = ap (far_at old) (eqb-true conn q e) in cc
     by q (Some far) was false e is = others q e (told_by_far far) is
 told_on conn change old new calls more here others (at_far far now was set so keeps) all = λ q.
     subst (λ (f : Option Far). IsToldAt q f (calls ++ more)) (sym (set q))
@@ -126,20 +119,8 @@ told_on conn change old new calls more here others (at_far far now was set so ke
     by : (q : ℕ) (t : Bool) → nat_eq conn q ≡ t
         → IsToldAt q (cond t (Some now) (far_at old q)) (calls ++ more)
     by q true e =
-        subst (λ (n : ℕ). IsTold n (told_by_far now) (calls ++ more)) (one_number conn q e) mine
+        subst (λ (n : ℕ). IsTold n (told_by_far now) (calls ++ more)) (eqb-true conn q e) mine
     by q false e = other_told q (far_at old q) calls more (all q) (others q e)
-
-or_false : (b : Bool) → (b || false) ≡ b
-or_false true = refl
-or_false false = refl
-
-or_true : (b : Bool) → (b || true) ≡ true
-or_true true = refl
-or_true false = refl
-
-cond_same : {A : Type 0} (t : Bool) (x : A) → cond t x x ≡ x
-cond_same true x = refl
-cond_same false x = refl
 
 -- one call more
 grows : (q : ℕ) (t u : WireTold) (calls : List Call) (call : Call) (given put : List ℕ)
@@ -156,7 +137,7 @@ grows q t u calls call given put shut given_is put_is shut_is taken_now written_
           ∙ ap (λ xs. written q calls ++ xs) (append-nil (written_by q call) ∙ put_is));
       closed_is = closed_now ∙ ap (λ b. b || shut) is.closed_is
           ∙ sym (list_any-append (is_close_of q) calls (call ∷ []) ∙ ap
-          (λ b. list_any (is_close_of q) calls || b) (or_false (is_close_of q call) ∙ shut_is));
+          (λ b. list_any (is_close_of q) calls || b) (or-false (is_close_of q call) ∙ shut_is));
     }
 
 quiet : (q : ℕ) (t : WireTold) (calls : List Call) (call : Call) → taken_by q call ≡ []
@@ -164,7 +145,7 @@ quiet : (q : ℕ) (t : WireTold) (calls : List Call) (call : Call) → taken_by 
     → IsTold q t (calls ++ call ∷ [])
 quiet q t calls call none nothing never is =
     grows q t t calls call [] [] false none nothing never (sym (append-nil t.taken))
-    (sym (append-nil t.written)) (sym (or_false t.closed)) is
+    (sym (append-nil t.written)) (sym (or-false t.closed)) is
 
 pub still_told : (conn : ℕ) (change : WireTold → WireTold) (old new : BTreeMap ℕ Far)
     → KeepsTold change → Changes conn change old new → StillTold old new
@@ -195,15 +176,15 @@ pub gives_none : (conn : ℕ) (old new : BTreeMap ℕ Far) → StillTold old new
 gives_none conn old new stays = λ calls room answer all.
     all_told new calls (reads conn room answer [] ∷ [])
     (λ q t is. quiet q t calls (reads conn room answer [])
-    (cond_same (nat_eq conn q) []) refl refl is) (stays calls all)
+    (same_either_way (nat_eq conn q) []) refl refl is) (stays calls all)
 
 pub gives : (conn : ℕ) (bytes : List ℕ) (old new : BTreeMap ℕ Far)
     → Changes conn (with_taken bytes) old new → Gives conn bytes old new
 gives conn bytes old new changes = λ calls room answer all.
     told_on conn (with_taken bytes) old new calls (reads conn room answer bytes ∷ [])
     (λ t is. grows conn t (with_taken bytes t) calls (reads conn room answer bytes) bytes [] false
-    (ap (λ b. cond b bytes []) (nat_eq-refl conn)) refl refl refl
-    (sym (append-nil t.written)) (sym (or_false t.closed)) is)
+    (ap (λ b. cond b bytes []) (eq-eqb conn conn refl)) refl refl refl
+    (sym (append-nil t.written)) (sym (or-false t.closed)) is)
     (λ q two t is. quiet q t calls (reads conn room answer bytes)
     (ap (λ b. cond b bytes []) two) refl refl is) changes all
 
@@ -213,7 +194,7 @@ pub takes_none : (conn : ℕ) (bytes : List ℕ) (fault : IoFault) (old new : BT
 takes_none conn bytes fault old new stays = λ calls all.
     all_told new calls (writes conn bytes (Err fault) ∷ [])
     (λ q t is. quiet q t calls (writes conn bytes (Err fault)) refl
-    (cond_same (nat_eq conn q) []) refl is) (stays calls all)
+    (same_either_way (nat_eq conn q) []) refl is) (stays calls all)
 
 pub takes : (conn : ℕ) (bytes : List ℕ) (n : ℕ) (old mid new : BTreeMap ℕ Far)
     → StillTold old mid → Changes conn (with_written (take n bytes)) mid new → (calls : List Call)
@@ -222,8 +203,9 @@ takes conn bytes n old mid new stays changes = λ calls all.
     told_on conn (with_written (take n bytes)) mid new calls (writes conn bytes (Ok n) ∷ [])
     (λ t is. grows conn t (with_written (take n bytes) t) calls (writes conn bytes (Ok n)) []
     (take n bytes) false refl
-    (ap (λ b. cond b (take n bytes) []) (nat_eq-refl conn)) refl (sym (append-nil t.taken)) refl
-    (sym (or_false t.closed)) is)
+    (ap (λ b. cond b (take n bytes) []) (eq-eqb conn conn refl)) refl
+        (sym (append-nil t.taken)) refl
+    (sym (or-false t.closed)) is)
     (λ q two t is. quiet q t calls (writes conn bytes (Ok n)) refl
     (ap (λ b. cond b (take n bytes) []) two) refl is) changes (stays calls all)
 
@@ -231,9 +213,10 @@ pub closed_told : (conn : ℕ) (old new : BTreeMap ℕ Far) → Changes conn wit
     → (calls : List Call) → AllWiresTold old calls → AllWiresTold new (calls ++ closes conn ∷ [])
 closed_told conn old new changes = λ calls all.
     told_on conn with_close old new calls (closes conn ∷ [])
-    (λ t is. grows conn t (with_close t) calls (closes conn) [] [] true refl refl (nat_eq-refl conn)
+    (λ t is. grows conn t (with_close t) calls (closes conn) [] [] true refl refl
+          (eq-eqb conn conn refl)
     (sym (append-nil t.taken)) (sym (append-nil t.written))
-    (sym (or_true t.closed)) is)
+    (sym (or-true t.closed)) is)
     (λ q two t is. quiet q t calls (closes conn) refl refl two is) changes all
 
 unchanged_at : (conn : ℕ) (old new : BTreeMap ℕ Far) → Changes conn same_told old new → (q : ℕ)
@@ -244,7 +227,7 @@ unchanged_at conn old new (at_far far now was set so keeps) q = ap (option_map t
     by : (b : Bool) → nat_eq conn q ≡ b
         → option_map told_by_far (cond b (Some now) (far_at old q)) ≡ told_at old q
     by true e =
-        ap Some so ∙ ap (option_map told_by_far) (sym was ∙ ap (far_at old) (one_number conn q e))
+        ap Some so ∙ ap (option_map told_by_far) (sym was ∙ ap (far_at old) (eqb-true conn q e))
     by false e = refl
 unchanged_at conn old new (no_far none same) q = ap (option_map told_by_far) (same q)
 

@@ -6,6 +6,7 @@ use Rattle.std.proofs.Common.{append_assoc}
 use Rattle.std.proofs.lemmas.Bool.Decides.{nat_tests}
 use Rattle.std.specs.Cmp.{first_so, second_so}
 use Rattle.std.specs.List.{AllByRecursion}
+use Rattle.std.proofs.lemmas.Bool.{false≢true}
 use Rattle.irc_pieces.specs.Counting.{count_line, count_parts}
 use Rattle.irc_pieces.specs.Ends.{after_as, after_line, after_text, begun, heard_as}
 use Rattle.irc_pieces.specs.Ends.{heard_line, heard_text, may_begin, whole, with_line}
@@ -115,10 +116,7 @@ plain_comes : (end : CountedEnd) (told : Bool) (line : List ℕ) (lines : Lines)
     → Comes end (line ∷ lines) (line ∷ lines) mark
 plain_comes end told line [] None plain between texts = alone_comes end line between texts.0
 plain_comes end told line [] (Some mark) plain between texts =
-    absurd (not_so (second_so (told && nat_eq 1 1) false plain))
-  where
-    not_so : false ≡ true → ⊥
-    not_so e = cc e
+    absurd (false≢true (second_so (told && nat_eq 1 1) false plain))
 plain_comes end told line (next ∷ lines) mark plain between texts =
     absurd (too_many (second_so told (nat_eq (length (line ∷ next ∷ lines)) 1)
     (first_so (told && nat_eq (length (line ∷ next ∷ lines)) 1) (not (is_some mark)) plain)))

@@ -1,4 +1,3 @@
 pub mod FoundRows
-pub mod MappedTwice
 pub mod NamedCount
 pub mod ServersTold

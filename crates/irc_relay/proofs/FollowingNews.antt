@@ -1,7 +1,7 @@
 -- The example follows: what one server of a part announces is shown by all.
-use Rattle.std.proofs.Common.{◌≡◌, ◌≢◌, ℕ, ◌==◌, true, false, ◌&&◌, not, cond, map, List, [], ◌∷◌}
+use Rattle.std.proofs.Common.{◌≡◌, ◌≢◌, ℕ, ◌==◌, true, ◌&&◌, not, cond, map, List, [], ◌∷◌}
 use Rattle.std.proofs.Common.{◌++◌, inl, inr, refl, sym, ap, subst, ◌∙◌, arith}
-use Rattle.std.proofs.lemmas.Bool.Decides.{eqb_tells}
+use Rattle.std.proofs.lemmas.Bool.{eq-eqb, ne_eqb}
 use Rattle.irc_relay.specs.Links.{Name, same, Link, part, IsForest, HasEnds, AreLinked, distance}
 use Rattle.irc_relay.specs.Relay.{Streams, streams_from, Covers, TakesFrom}
 use Rattle.irc_relay.specs.Following.{sends, Follows}
@@ -16,12 +16,6 @@ use Rattle.irc_relay.proofs.RelayingNews.{over_linked, on_linked}
 use Rattle.irc_relay.specs.declared.news.NewsSent.{NewsSent}
 
 -- ---- one link sends one item
-
-equal_numbers : (a : ℕ) → (a == a) ≡ true
-equal_numbers a = elim (eqb_tells a a) [ inl p ↦ p.0 | inr p ↦ absurd (p.1 refl) ]
-
-other_numbers : (a b : ℕ) → a ≢ b → (a == b) ≡ false
-other_numbers a b n = elim (eqb_tells a b) [ inl p ↦ absurd (n p.1) | inr p ↦ p.0 ]
 
 -- the servers that links link have one-byte names
 pub linked_names : (edges : List Edge) (t u : Name) → AreLinked (links_of edges) t u
@@ -58,10 +52,10 @@ over_ends at from to item e apart new (inl ends) =
     chosen =
         ap (λ b. cond (b && not (e.far == from)) (to_far ∷ [])
         (cond ((e.far == at) && not (e.near == from)) (to_near ∷ []) []))
-        (subst (λ v. (v == at) ≡ true) (sym (ap number ends.0)) (equal_numbers at))
+        (subst (λ v. (v == at) ≡ true) (sym (ap number ends.0)) (eq-eqb at at refl))
         ∙ ap (λ b. cond (not b) (to_far ∷ [])
         (cond ((e.far == at) && not (e.near == from)) (to_near ∷ []) []))
-        (other_numbers e.far from (λ h. new (sym (ap number ends.1) ∙ h)))
+        (ne_eqb e.far from (λ h. new (sym (ap number ends.1) ∙ h)))
 over_ends at from to item e apart new (inr ends) =
     ap (λ sent. queue_of news_parts sent (name at) (name to)) chosen
     ∙ single_there to_near (name at) (name to) refl ends.0
@@ -76,11 +70,11 @@ over_ends at from to item e apart new (inr ends) =
     chosen =
         ap (λ b. cond (b && not (e.far == from)) (to_far ∷ [])
         (cond ((e.far == at) && not (e.near == from)) (to_near ∷ []) []))
-        (other_numbers e.near at (λ h. apart (sym h ∙ ap number ends.0)))
+        (ne_eqb e.near at (λ h. apart (sym h ∙ ap number ends.0)))
         ∙ ap (λ b. cond (b && not (e.near == from)) (to_near ∷ []) [])
-        (subst (λ v. (v == at) ≡ true) (sym (ap number ends.1)) (equal_numbers at))
+        (subst (λ v. (v == at) ≡ true) (sym (ap number ends.1)) (eq-eqb at at refl))
         ∙ ap (λ b. cond (not b) (to_near ∷ []) [])
-        (other_numbers e.near from (λ h. new (sym (ap number ends.0) ∙ h)))
+        (ne_eqb e.near from (λ h. new (sym (ap number ends.0) ∙ h)))
 
 -- where nothing can begin a list, it is empty
 no_first : (lines : List ℕ) → ((l : ℕ) (ls : List ℕ) → lines ≡ l ∷ ls → ⊥) → lines ≡ []
@@ -134,9 +128,6 @@ module _ (edges : List Edge) (source : Name → Name) (forest : IsForest (links_
           let b = takes.below in
           omega arith
 
-  known_true : (a b : ℕ) → a ≡ b → (a == b) ≡ true
-  known_true a b e = subst (λ v. (a == v) ≡ true) e (equal_numbers a)
-
   -- a line goes on to each other neighbour
   sent_once : (p t u : Name) (item : ℕ) → AreLinked (links_of edges) t u → TakesFrom from t p
       → u ≢ p → queue_of news_parts (sent_on edges (number t) (number p) item) t u ≡ item ∷ []
@@ -178,13 +169,13 @@ module _ (edges : List Edge) (source : Name → Name) (forest : IsForest (links_
         ∙ sent_once p t u line linked takes other) said tt;
     aside_fits = λ p t w s line takes fits aside. aside;
     aside_shows = λ p t w s line takes fits aside. ap (λ b. cond b [] (line ∷ []))
-        (known_true line s (aside ∙ sym fits));
+        (eq-eqb line s (aside ∙ sym fits));
     aside_good = λ p t w s line takes fits aside. tt;
     aside_sends = λ p t u w s line takes next other fits aside.
         ap (λ b. cond b [] (queue_of news_parts (sent_on edges (number t) (number p) line) t u))
-        (known_true line s (aside ∙ sym fits));
+        (eq-eqb line s (aside ∙ sym fits));
     aside_meets = λ p t u w s su line takes next other fits fits_u meet aside. tt;
     passed_fits = λ t w s act fits passes. fits ∙ sym passes;
-    passed_shows = λ t w act passes. ap (λ b. cond b [] (act ∷ [])) (known_true act w passes);
+    passed_shows = λ t w act passes. ap (λ b. cond b [] (act ∷ [])) (eq-eqb act w passes);
     passed_on = λ t u w act next passes. passes;
   }

@@ -3,6 +3,8 @@ use Rattle.std.proofs.Common.{◌≡◌, ℕ, Bool, true, false, cond, not, ◌|
 use Rattle.std.proofs.Common.{sym, ◌∙◌, ap, is_some, map}
 use Rattle.std.specs.List.{list_any}
 use Rattle.std.specs.FinMap.{keys, entries}
+use Rattle.std.proofs.Math.Bool.{false≢true, or-true}
+use Rattle.irc_names.specs.Lemmas.PlainFacts.{none_if_not_some}
 use Rattle.irc_names.specs.Fold.{key, same}
 use Rattle.irc_names.specs.FoldLaws.{same-ties}
 use Rattle.irc_names.specs.Tables.{Table, row, alter}
@@ -12,20 +14,15 @@ use Rattle.irc_tables.specs.RowViews.{row_entry}
 use Rattle.irc_modes.specs.Modes.{is_nil}
 use Rattle.irc_channels.specs.declared.channel.Channel.{Channel}
 use Rattle.irc_channels.specs.declared.flags.Flags.{Flags}
-use Rattle.irc_effects.specs.Lemmas.Rows.{not_true, no_row, some_key}
+use Rattle.irc_effects.specs.Lemmas.Rows.{no_row, some_key}
 use Rattle.irc_room.specs.Indexes.{folds_of, is_alone}
-use Rattle.irc_room.proofs.IndexChanges.{none_of}
 
 abbrev another : List ℕ → List ℕ → Bool
 another nick fold = not (same_fold fold nick)
 
-or_true : (b : Bool) → (b || true) ≡ true
-or_true true = refl
-or_true false = refl
-
 any_at : (p : List ℕ → Bool) (q : List ℕ) (folds : List (List ℕ))
     → list_any (same_fold q) folds ≡ true → p q ≡ true → list_any p folds ≡ true
-any_at p q [] found is = not_true found
+any_at p q [] found is = absurd (false≢true found)
 any_at p q (fold ∷ folds) found is =
     by_fold (λ more. any_at p q folds more is) (same_fold q fold) refl found
   where
@@ -34,7 +31,7 @@ any_at p q (fold ∷ folds) found is =
         → (p fold || list_any p folds) ≡ true
     by_fold rest true one found = ap (λ f. p f || list_any p folds) (sym (one_fold q fold one))
         ∙ ap (λ b. b || list_any p folds) is
-    by_fold rest false two found = ap (λ b. p fold || b) (rest found) ∙ or_true (p fold)
+    by_fold rest false two found = ap (λ b. p fold || b) (rest found) ∙ or-true (p fold)
 
 abbrev IsFoundIn : (List ℕ → Bool) → List (List ℕ) → Type 0
 IsFoundIn p folds = (q : List ℕ) × ((p q ≡ true) × (list_any (same_fold q) folds ≡ true))
@@ -42,7 +39,7 @@ IsFoundIn p folds = (q : List ℕ) × ((p q ≡ true) × (list_any (same_fold q)
 -- some fold of which it is said
 any_found : (p : List ℕ → Bool) (folds : List (List ℕ)) → list_any p folds ≡ true
     → IsFoundIn p folds
-any_found p [] found = not_true found
+any_found p [] found = absurd (false≢true found)
 any_found p (fold ∷ folds) found = by_test (any_found p folds) (p fold) refl found
   where
     by_test : (list_any p folds ≡ true → IsFoundIn p folds) → (b : Bool) → p fold ≡ b
@@ -55,7 +52,7 @@ any_found p (fold ∷ folds) found = by_test (any_found p folds) (p fold) refl f
           (
             more.1.0,
             ap (λ b. same_fold more.0 fold || b) more.1.1
-                ∙ or_true (same_fold more.0 fold),
+                ∙ or-true (same_fold more.0 fold),
           ),
         )
 
@@ -67,7 +64,7 @@ alone_folds {X} nick table = by_test (list_any (another nick) (keys table)) refl
     rest = alter nick (λ _. None) table
 
     stays : (q : List ℕ) (b : Bool) → same_fold q nick ≡ b → not b ≡ true → row rest q ≡ row table q
-    stays q true one other = not_true other
+    stays q true one other = absurd (false≢true other)
     stays q false two other =
         row-alter nick (λ _. None) table q ∙ ap (λ b. cond b None (row table q)) two
 
@@ -76,9 +73,9 @@ alone_folds {X} nick table = by_test (list_any (another nick) (keys table)) refl
       where
         by_row : same_fold q nick ≡ false → (b : Bool) → is_some (row table q) ≡ b
             → row table q ≡ None
-        by_row two true there = not_true (sym none
-            ∙ any_at (another nick) q (keys table) (row-keys table q ∙ there) (ap not two))
-        by_row two false out = none_of (row table q) out
+        by_row two true there = absurd (false≢true (sym none
+                ∙ any_at (another nick) q (keys table) (row-keys table q ∙ there) (ap not two)))
+        by_row two false out = none_if_not_some (row table q) out
 
         by_fold : (b : Bool) → same_fold q nick ≡ b → cond b None (row table q) ≡ None
         by_fold true one = refl

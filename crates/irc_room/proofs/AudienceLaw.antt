@@ -5,18 +5,18 @@ use Rattle.std.proofs.Common.{refl, sym, ◌∙◌, ap, map, filter_map, is_some
 use Rattle.std.proofs.Common.{option_map}
 use Rattle.std.specs.List.{cons_option}
 use Rattle.std.specs.FinMap.{values}
+use Rattle.std.proofs.Math.Bool.{false≢true}
 use Rattle.irc_users.specs.declared.user.User.{User}
 use Rattle.irc_effects.specs.declared.effect.Effect.{Effect}
 use Rattle.irc_effects.specs.Room.{Room}
 use Rattle.irc_effects.specs.Effects.{is_idle}
 use Rattle.irc_room.specs.Loops.Viewing.{viewers}
 use Rattle.irc_effects.specs.Seen.{Showing, seen, shown_to, shown_line, sees}
-use Rattle.irc_effects.specs.Lemmas.Rows.{not_true}
 use Rattle.irc_effects.specs.Lemmas.AllSeen.{nicks, IsLined, all_seen}
 
 no_line : (line : Option (List ℕ)) → is_some line ≡ false → line ≡ None
 no_line None none = refl
-no_line (Some l) none = not_true (sym none)
+no_line (Some l) none = absurd (false≢true (sym none))
 
 none_shown : (b : Bool) (user : User) (line : Option (List ℕ))
     → line ≡ None → ◌≡◌ {A = Option Showing}

@@ -1,5 +1,5 @@
 -- How many users are connected to a server: what each effect makes of their number.
-use Rattle.std.proofs.Common.{◌≡◌, ℕ, ◌+◌, ◌≤◌, Bool, true, false, cond, not, ◌||◌, T, is_some}
+use Rattle.std.proofs.Common.{◌≡◌, ℕ, ◌+◌, ◌≤◌, Bool, true, false, cond, not, ◌||◌, is_some}
 use Rattle.std.proofs.Common.{Option, Some, None, List, [], ◌∷◌, map, filter, length, refl, sym}
 use Rattle.std.proofs.Common.{◌∙◌, ap, arith, option_map}
 use Rattle.std.proofs.lemmas.Bool.{and_parts}
@@ -13,6 +13,8 @@ use Rattle.std.specs.Cmp.Lexicographic.{nat_list_cmp_total}
 use Rattle.std.specs.FinMap.{empty, entries, entries_sorted, entries-insert, get-entries, keys}
 use Rattle.std.specs.FinMap.{len-empty, len-entries, values}
 use Rattle.std.specs.FinMap.Entries.{put as put_entry, by_order, find, below_all, is_sorted}
+use Rattle.std.proofs.Math.Bool.{false≢true}
+use Rattle.irc_names.specs.Lemmas.PlainFacts.{is_true}
 use Rattle.irc_names.specs.Fold.{key, same}
 use Rattle.irc_names.specs.FoldLaws.{same-tells}
 use Rattle.irc_names.specs.Tables.{Table, fold_cmp, row, alter, moved, put_row}
@@ -29,11 +31,7 @@ use Rattle.irc_effects.specs.Room.{Room}
 use Rattle.irc_effects.specs.After.{after}
 use Rattle.irc_effects.specs.Effects.{brings_free}
 use Rattle.irc_room.specs.Loops.HomeCount.{home_count, one_of, gone, come}
-use Rattle.irc_effects.specs.Lemmas.Rows.{not_true, alter_same}
-
-told : (b : Bool) → T b → b ≡ true
-told true h = refl
-told false h = absurd h
+use Rattle.irc_effects.specs.Lemmas.Rows.{alter_same}
 
 -- ---- a list of entries in the order of their keys
 
@@ -95,7 +93,7 @@ module _ {X : Type 0} (p : X → Bool) where
       (entries-insert nat_list_cmp_total table fold x)
       ∙ ap (λ f. length (filter p (map (λ (e : List ℕ × X). e.1)
       (put_entry fold_cmp fold x (entries table)))) + one_of p f) (get-entries table fold)
-      ∙ put_many nat_list_cmp_total p fold x (entries table) (told _ (entries_sorted table))
+      ∙ put_many nat_list_cmp_total p fold x (entries table) (is_true _ (entries_sorted table))
 
   -- a row that is taken out and put back
   back : (fold : List ℕ) (x : X) (table : Table X) → row table fold ≡ Some x
@@ -173,14 +171,14 @@ module _ {X : Type 0} (p : X → Bool) where
 
 no_user : (o : Option User) → not (is_some o) ≡ true → o ≡ None
 no_user None free = refl
-no_user (Some user) free = not_true free
+no_user (Some user) free = absurd (false≢true free)
 
 free_then : (o : Option User) (b s : Bool) → (s ≡ true → b ≡ true) → (not (is_some o) || s) ≡ true
     → cond b None o ≡ None
 free_then o true s one free = refl
 free_then None false s one free = refl
-free_then (Some user) false true one free = not_true (one refl)
-free_then (Some user) false false one free = not_true free
+free_then (Some user) false true one free = absurd (false≢true (one refl))
+free_then (Some user) false false one free = absurd (false≢true free)
 
 pub counted_after : (home : List ℕ) (room : Room) (effect : Effect) → brings_free room effect ≡ true
     → home_count home (after room effect).users + gone home room.users effect

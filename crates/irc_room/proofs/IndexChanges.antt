@@ -28,10 +28,6 @@ stands-alter nick change index n c =
 none_here : (c : List ℕ) → is_some (row (empty {X = Unit {0}} {R = fold_cmp}) c) ≡ false
 none_here c = ap is_some (get-empty {X = Unit {0}} fold_cmp c)
 
-pub none_of : {X : Type 0} (o : Option X) → is_some o ≡ false → o ≡ None
-none_of None none = refl
-none_of (Some x) none = cc
-
 -- a row with nothing in it
 pub opened : (before after : Index) (nick : List ℕ) → row before nick ≡ None
     → after ≡ alter nick (λ _. Some empty) before → IsOpened before after nick

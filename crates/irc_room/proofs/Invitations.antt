@@ -6,6 +6,9 @@ use Rattle.std.proofs.lemmas.List.{map-append, take_more}
 use Rattle.std.proofs.lemmas.List.Folds.{list_any-append}
 use Rattle.std.specs.Option.{option_and_then}
 use Rattle.std.specs.FinMap.{keys, entries, get-empty}
+use Rattle.std.proofs.lemmas.Bool.{not-true, cond-true}
+use Rattle.std.proofs.Math.Bool.{and-false, false≢true}
+use Rattle.irc_names.specs.Lemmas.PlainFacts.{none_if_not_some}
 use Rattle.irc_names.specs.Fold.{key}
 use Rattle.irc_names.specs.Tables.{Table, fold_cmp, row, alter, each, moved}
 use Rattle.irc_names.specs.TableLaws.{same_fold, same_fold-refl, one_fold, row-alter, row-keys}
@@ -18,7 +21,7 @@ use Rattle.irc_modes.specs.Modes.{is_nil}
 use Rattle.irc_channels.specs.Channels.{has_member, is_invited, new_channel, joined, left}
 use Rattle.irc_channels.specs.Channels.{without_user, while_members, renamed, invited_too, changed}
 use Rattle.irc_channels.specs.Channels.{all_changed}
-use Rattle.irc_effects.specs.Lemmas.Rows.{not_true, if_true, if_not, alter_same}
+use Rattle.irc_effects.specs.Lemmas.Rows.{if_not, alter_same}
 use Rattle.irc_effects.specs.Lemmas.ModesKept.{letter_folk}
 use Rattle.irc_room.specs.Indexes.{Index, stands, names_in, folds_of, holds, is_alone}
 use Rattle.irc_room.specs.Indexes.{is_ended_with, is_named, is_uninvited, invited_beside}
@@ -26,8 +29,8 @@ use Rattle.irc_room.specs.Indexes.{AreIndexed, AreInhabited, Tells, Drops, Drops
 use Rattle.irc_room.specs.Indexes.{TellsOfOthers}
 use Rattle.irc_room.specs.Loops.InTurn.{in_turn}
 use Rattle.irc_room.proofs.EachInTurn.{all_in_turn, named_told}
-use Rattle.irc_room.proofs.IndexChanges.{forgotten, none_of}
-use Rattle.irc_effects.specs.Lemmas.Members.{taken_out, and_false}
+use Rattle.irc_room.proofs.IndexChanges.{forgotten}
+use Rattle.irc_effects.specs.Lemmas.Members.{taken_out}
 use Rattle.irc_room.proofs.Memberships.{said, holds-each}
 
 -- ---- names that are dropped one after another
@@ -104,7 +107,7 @@ joined_asked nick name op o out n = by_row o out
 pub invited_asked : (nick : List ℕ) (o : Option Channel) → said is_uninvited nick o ≡ true
     → (n : List ℕ) → said is_invited n (option_map (invited_too nick) o)
     ≡ (same_fold n nick || said is_invited n o)
-invited_asked nick None there n = not_true there
+invited_asked nick None there n = absurd (false≢true there)
 invited_asked nick (Some channel) there n =
     ap is_some (row-alter nick (λ _. Some tt) channel.invited n) ∙ by_fold (same_fold n nick)
   where
@@ -122,16 +125,16 @@ invited_already nick (Some channel) out =
     (alter_same nick (λ _. Some tt) channel.invited (by_row (row channel.invited nick) out))
   where
     by_row : (o : Option (Unit {0})) → not (is_some o) ≡ false → Some tt ≡ o
-    by_row None out = not_true (sym out)
+    by_row None out = absurd (false≢true (sym out))
     by_row (Some tt) out = refl
 
 -- the invitations to a channel that ends with a member are gone
 pub left_asked : (nick : List ℕ) (o : Option Channel) → said has_member nick o ≡ true
     → (n : List ℕ) → said is_invited n (option_and_then (left nick) o)
     ≡ (not (said (is_ended_with nick) n o) && said is_invited n o)
-left_asked nick None there n = not_true there
+left_asked nick None there n = absurd (false≢true there)
 left_asked nick (Some channel) there n =
-    ap (said is_invited n) (if_true (has_member nick channel)
+    ap (said is_invited n) (cond-true (has_member nick channel)
     (while_members (record channel { members = alter nick (λ _. None) channel.members }))
     (Some channel) there)
     ∙ by_test (is_alone nick channel) (is_invited n channel)
@@ -193,7 +196,7 @@ others_at_first before after nick channels tells is = record {
   where
     by_row : (n : List ℕ) (o : Option Channel)
         → (not (same_fold n nick) && said is_invited n o) ≡ said (invited_beside nick) n o
-    by_row n None = and_false (not (same_fold n nick))
+    by_row n None = and-false (not (same_fold n nick))
     by_row n (Some channel) = refl
 
 -- where it is invited nowhere the others are all
@@ -269,9 +272,9 @@ gone_elsewhere nick channels some q out unasked = by_row (row channels q) refl o
     by_row (Some channel) at out unasked =
         (λ i. while_members (record channel {
           members = alter_same nick (λ _. None) channel.members
-              (sym (none_of (row channel.members nick) out)) i;
+              (sym (none_if_not_some (row channel.members nick) out)) i;
           invited = alter_same nick (λ _. None) channel.invited
-              (sym (none_of (row channel.invited nick) unasked)) i;
+              (sym (none_if_not_some (row channel.invited nick) unasked)) i;
         }))
         ∙ if_not (is_nil (keys channel.members)) None (Some channel) (ap not (some.at q channel at))
 
@@ -334,8 +337,10 @@ renamed_elsewhere nick new channels q out unasked = by_row (row channels q) out 
         → option_and_then (λ c. Some (renamed nick new c)) o ≡ o
     by_row None out unasked = refl
     by_row (Some channel) out unasked = λ i. Some (record channel {
-      members = unmoved nick new channel.members (none_of (row channel.members nick) out) i;
-      invited = unmoved nick new channel.invited (none_of (row channel.invited nick) unasked) i;
+      members =
+          unmoved nick new channel.members (none_if_not_some (row channel.members nick) out) i;
+      invited =
+          unmoved nick new channel.invited (none_if_not_some (row channel.invited nick) unasked) i;
     })
 
 -- who is not a member does not leave
@@ -350,12 +355,7 @@ out_left nick (Some channel) out =
 pub uninvited_out : (nick : List ℕ) (o : Option Channel) → said is_uninvited nick o ≡ true
     → said is_invited nick o ≡ false
 uninvited_out nick None there = refl
-uninvited_out nick (Some channel) there = by_test (is_invited nick channel) there
-  where
-    by_test : (b : Bool) → not b ≡ true → b ≡ false
-    by_test true there = not_true there
-    by_test false there = refl
-
+uninvited_out nick (Some channel) there = not-true (is_invited nick channel) there
 -- ---- what the code goes through, and what it leaves out
 
 module _ (rows : List (Row (Unit {0}))) (i : ℕ) (d : Row (Unit {0}))

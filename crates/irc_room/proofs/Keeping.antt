@@ -4,13 +4,15 @@ use Rattle.std.proofs.Common.{◌≡◌, ℕ, Bool, true, false, not, Option, So
 use Rattle.std.proofs.Common.{List, refl, sym, ◌∙◌, ap}
 use Rattle.std.specs.Option.{option_map, option_and_then}
 use Rattle.std.specs.Result.{result_err}
+use Rattle.std.proofs.lemmas.Bool.{cond-true}
+use Rattle.std.proofs.lemmas.Option.{none-some}
 use Rattle.irc_channels.specs.declared.channel.Channel.{Channel}
 use Rattle.irc_channels.specs.declared.fault.ChannelsFault.{ChannelsFault}
 use Rattle.irc_channels.specs.declared.fault.ChannelsFault.TheVariants.{NoSuchChannel, NotMember}
 use Rattle.irc_channels.specs.declared.fault.ChannelsFault.TheVariants.{Memory}
 use Rattle.irc_channels.specs.Channels.{has_member, left}
 use Rattle.irc_channels.specs.ChannelTable.{channel_fault, leaving_fault, IsOwedOrMemory}
-use Rattle.irc_effects.specs.Lemmas.Rows.{not_none, if_true, if_not}
+use Rattle.irc_effects.specs.Lemmas.Rows.{if_not}
 
 -- whichever way a call went, the table is as the change makes it, where a refusal means that it
 -- makes nothing of it
@@ -24,7 +26,8 @@ out_stays : (nick : List ℕ) (channel : Channel) (fault : ChannelsFault) (b : B
     → has_member nick channel ≡ b → Some fault ≡ leaving_fault nick (Some channel)
     → left nick channel ≡ Some channel
 out_stays nick channel fault true in_it is =
-    not_none fault (sym (is ∙ if_true (has_member nick channel) None (Some NotMember) in_it))
+    absurd (none-some fault
+          (sym (is ∙ cond-true (has_member nick channel) None (Some NotMember) in_it)))
 out_stays nick channel fault false out is = if_not (has_member nick channel) _ _ (ap not out)
 
 -- a member who does not leave leaves all as it is
@@ -38,7 +41,7 @@ left_stays nick (Some channel) fault is =
 pub absent_stays : (change : Channel → Channel) (channel : Option Channel) (fault : ChannelsFault)
     → Some fault ≡ channel_fault channel → option_map change channel ≡ channel
 absent_stays change None fault is = refl
-absent_stays change (Some channel) fault is = not_none fault (sym is)
+absent_stays change (Some channel) fault is = absurd (none-some fault (sym is))
 
 -- the same for a call that may want memory too
 pub owed_stays : (change : Channel → Channel) (channel : Option Channel) (fault : ChannelsFault)

@@ -6,6 +6,8 @@ use Rattle.std.proofs.Common.{◌||◌, Option, Some, None, List, refl, sym}
 use Rattle.std.proofs.Common.{◌∙◌, ap, is_some, option_map, unwrap_or}
 use Rattle.std.specs.Option.{option_and_then, option_map_or}
 use Rattle.std.specs.FinMap.{empty, get-empty}
+use Rattle.std.proofs.Math.Bool.{and-false, and-true}
+use Rattle.std.proofs.lemmas.Bool.{cond-true}
 use Rattle.irc_names.specs.Fold.{key, same}
 use Rattle.irc_names.specs.FoldLaws.{same-tells}
 use Rattle.irc_names.specs.Tables.{Table, fold_cmp, row, alter, each, moved}
@@ -21,8 +23,8 @@ use Rattle.irc_effects.specs.Room.{IsSoundRow, IsWellFormed}
 use Rattle.irc_room.specs.Indexes.{Names, Index, is_among, stands, holds, AreIndexed}
 use Rattle.irc_room.specs.Indexes.{AreInhabited, IsAlike, Tells, Adds, Drops, DropsWhere}
 use Rattle.irc_room.specs.Indexes.{IsFreeOf}
-use Rattle.irc_effects.specs.Lemmas.Members.{and_false, member_while, moved_row, taken_out}
-use Rattle.irc_effects.specs.Lemmas.Rows.{if_true, alter_same}
+use Rattle.irc_effects.specs.Lemmas.Members.{member_while, moved_row, taken_out}
+use Rattle.irc_effects.specs.Lemmas.Rows.{alter_same}
 use Rattle.irc_room.proofs.IndexChanges.{forgotten, stands-moved}
 
 -- ---- a test of the channels
@@ -86,10 +88,6 @@ tells_restored test before between after nick name tells out adds drops = record
     by_tests n c true false one other = refl
     by_tests n c false b one other = refl
 
-and_true : (b : Bool) → (b && true) ≡ b
-and_true true = refl
-and_true false = refl
-
 module _ (test : Test) (index : Index) (name : List ℕ) (change : Option Channel → Option Channel)
     (channels : Table Channel) (tells : Tells index (holds test channels)) where
   -- the test holds as it did
@@ -121,10 +119,10 @@ module _ (test : Test) (index : Index) (name : List ℕ) (change : Option Channe
           → ((same_fold n nick && b) || holds test channels n c)
           ≡ cond b (said test n (change (row channels name))) (holds test channels n c)
       by_name n c true one =
-          ap (λ b. b || holds test channels n c) (and_true (same_fold n nick))
+          ap (λ b. b || holds test channels n c) (and-true (same_fold n nick))
           ∙ ap (λ q. same_fold n nick || holds test channels n q) (one_fold c name one)
           ∙ sym (here n)
-      by_name n c false two = ap (λ b. b || holds test channels n c) (and_false (same_fold n nick))
+      by_name n c false two = ap (λ b. b || holds test channels n c) (and-false (same_fold n nick))
 
   -- it holds of some nicknames less
   pub tells_dropped : (after : Index) (gone : List ℕ → Bool)
@@ -143,10 +141,10 @@ module _ (test : Test) (index : Index) (name : List ℕ) (change : Option Channe
           → (not (gone n && b) && holds test channels n c)
           ≡ cond b (said test n (change (row channels name))) (holds test channels n c)
       by_name n c true one =
-          ap (λ b. not b && holds test channels n c) (and_true (gone n))
+          ap (λ b. not b && holds test channels n c) (and-true (gone n))
           ∙ ap (λ q. not (gone n) && holds test channels n q) (one_fold c name one)
           ∙ sym (here n)
-      by_name n c false two = ap (λ b. not b && holds test channels n c) (and_false (gone n))
+      by_name n c false two = ap (λ b. not b && holds test channels n c) (and-false (gone n))
 
 -- whatever keeps the members
 pub mapped_said : (test : Test) (change : Channel → Channel)
@@ -171,7 +169,7 @@ tells_without before after nick channels tells is = record {
   where
     by_row : (n : List ℕ) (o : Option Channel) → (not (same_fold n nick) && said has_member n o)
         ≡ said has_member n (option_and_then (without_user nick) o)
-    by_row n None = and_false (not (same_fold n nick))
+    by_row n None = and-false (not (same_fold n nick))
     by_row n (Some channel) =
         sym (member_while (record channel {
           members = alter nick (λ _. None) channel.members;
@@ -247,7 +245,7 @@ joined_already nick name op channels there =
     by_row : (o : Option Channel) → said has_member nick o ≡ true
         → Some (joined nick op (unwrap_or o (new_channel name))) ≡ o
     by_row None there = cc
-    by_row (Some channel) there = ap Some (if_true (has_member nick channel) channel _ there)
+    by_row (Some channel) there = ap Some (cond-true (has_member nick channel) channel _ there)
 
 -- in a well-formed room the nickname that a Rename brings is no other member's, and nobody else is
 -- invited by it

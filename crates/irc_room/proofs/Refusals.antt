@@ -3,6 +3,7 @@ use Rattle.std.proofs.Common.{◌≡◌, Bool, true, false, cond, not, Some, Non
 use Rattle.std.proofs.Common.{refl, sym, ◌∙◌, ap, subst}
 use Rattle.std.specs.List.{list_all}
 use Rattle.std.specs.Option.{option_map_or}
+use Rattle.std.proofs.lemmas.Bool.{not-false}
 use Rattle.irc_effects.specs.declared.effect.Effect.{Effect}
 use Rattle.irc_effects.specs.declared.fault.RoomFault.{RoomFault}
 use Rattle.irc_effects.specs.declared.fault.RoomFault.TheVariants.{NoSuchUser, NoSuchChannel}
@@ -48,10 +49,6 @@ pub record IsServed (kept : ServerRoom) (effect : Effect) : Type 0 where
   pub users_there : list_all (has_user kept.room) (needs_users effect) ≡ true
   pub channel_there : option_map_or (has_channel kept.room) (needs_channel effect) true ≡ true
 
-pub not_so : (b : Bool) → not b ≡ false → b ≡ true
-not_so true e = refl
-not_so false e = cc
-
 no_cause : (failed no_user no_channel : Bool) → cond failed (Some Failed)
     (cond no_user (Some NoSuchUser) (cond no_channel (Some NoSuchChannel) None)) ≡ None
     → (failed ≡ false) × (no_user ≡ false) × (no_channel ≡ false)
@@ -65,7 +62,8 @@ pub served : (kept : ServerRoom) (effect : Effect) → room_fault kept effect �
 served kept effect is =
     let parts = no_cause kept.failed (not (list_all (has_user kept.room) (needs_users effect)))
     (not (option_map_or (has_channel kept.room) (needs_channel effect) true)) is in
-    record { alive = parts.0; users_there = not_so _ parts.1; channel_there = not_so _ parts.2 }
+    record { alive = parts.0; users_there = not-false _ parts.1;
+          channel_there = not-false _ parts.2 }
 
 -- a room that was changed, or was not for want of memory, field by field
 pub kept_changed : (inside now : ServerRoom) (room : Room) (effect : Effect) → inside ≡ now

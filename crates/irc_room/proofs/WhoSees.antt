@@ -7,6 +7,7 @@ use Rattle.std.specs.List.{list_any}
 use Rattle.std.specs.Option.{option_map_or}
 use Rattle.std.specs.Cmp.Lexicographic.{pointwise}
 use Rattle.std.specs.FinMap.{empty, entries, values, get-empty}
+use Rattle.std.proofs.Math.Bool.{or_comm}
 use Rattle.irc_names.specs.Fold.{key, same}
 use Rattle.irc_names.specs.Tables.{Table, fold_cmp, row, alter}
 use Rattle.irc_names.specs.TableLaws.{same_fold, row-alter, row-keys}
@@ -86,13 +87,6 @@ names_chosen users named names rows may is tells =
     ∙ table_chooses users names (λ user. may (key user.nick))
     (λ fold user at. tells fold ∙ ap may (sym (named fold user at)))
 
--- those of the members of a channel and one nickname
-or_turned : (b c : Bool) → (b || c) ≡ (c || b)
-or_turned true true = refl
-or_turned true false = refl
-or_turned false true = refl
-or_turned false false = refl
-
 none_at_first : (start : Table Flags) → start ≡ empty → (q : List ℕ) → is_some (row start q) ≡ false
 none_at_first start is q = ap (λ t. is_some (row t q)) is ∙ ap is_some (get-empty fold_cmp q)
 
@@ -105,7 +99,7 @@ joiner_among start middle names none nick o rows same name is first second q =
     second q
     ∙ (λ i. (first q ∙ ap (λ b. b || stands_in rows q) (none_at_first start none q) ∙ channel_rows o
     rows same q) i || (ap (λ n. same_fold q (key n)) is ∙ fold_of nick q) i)
-    ∙ or_turned (option_map_or (has_member q) o false) (pointwise nat_eq (key nick) q)
+    ∙ or_comm (option_map_or (has_member q) o false) (pointwise nat_eq (key nick) q)
 
 -- of those who share a channel with a user
 pub sharers_among : (start names : Table Flags) → start ≡ empty
@@ -123,7 +117,7 @@ pub also_one : (middle names : Table Flags) (nick name : List ℕ) → name ≡ 
     → is_some (row names q) ≡ (pointwise nat_eq (key nick) q || may q)
 also_one middle names nick name is may tells gained q =
     gained q ∙ (λ i. tells q i || (ap (λ n. same_fold q (key n)) is ∙ fold_of nick q) i)
-    ∙ or_turned (may q) (pointwise nat_eq (key nick) q)
+    ∙ or_comm (may q) (pointwise nat_eq (key nick) q)
 
 none_or_there : (b : Bool) (o : Option Flags) → is_some (cond b None o) ≡ (not b && is_some o)
 none_or_there true o = refl

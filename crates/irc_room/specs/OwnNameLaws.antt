@@ -13,6 +13,7 @@ use Rattle.std.specs.FinMap.{entries, entries_sorted, values, find, is_sorted, g
 use Rattle.std.specs.FinMap.{slice_cmp-IsAntisymmetric, nat_cmp-IsAntisymmetric}
 use Rattle.std.specs.FinMap.Entries.{below_all, where_key, find-where_key, is_sorted-where_key}
 use Rattle.std.specs.FinMap.Entries.{same_entries}
+use Rattle.irc_names.specs.Lemmas.PlainFacts.{is_true}
 use Rattle.irc_names.specs.Tables.{Table, fold_cmp, row}
 use Rattle.irc_tables.specs.Lemmas.OrderedEntries.{find-there, sorted-below}
 use Rattle.irc_channels.specs.declared.channel.Channel.{Channel}
@@ -23,10 +24,6 @@ use Rattle.irc_room.specs.Indexes.{joins_both}
 
 order : IsTotalOrder fold_cmp
 order = nat_list_cmp_total
-
-true_is : (b : Bool) → T b → b ≡ true
-true_is true h = refl
-true_is false h = absurd h
 
 abbrev name_of : {X : Type 0} → List ℕ × X → List ℕ × Unit {0}
 name_of e = (e.0, tt)
@@ -64,7 +61,7 @@ entries_at : {X : Type 0} (table : Table X) (front es : List (List ℕ × X))
 entries_at table front [] is = tt
 entries_at table front (e ∷ es) is =
     let sorted : is_sorted fold_cmp (front ++ e ∷ es) ≡ true = ap (is_sorted fold_cmp) is
-    ∙ true_is _ (entries_sorted table) in (
+    ∙ is_true _ (entries_sorted table) in (
       get-entries table e.0 ∙ ap (find fold_cmp e.0) (sym is)
           ∙ find-there order e.0 e.1 front es (sorted-below order e.0 e.1 front es sorted),
       entries_at table (front ++ e ∷ []) es (append_assoc front (e ∷ []) es ∙ is),

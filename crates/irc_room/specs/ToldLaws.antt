@@ -1,5 +1,5 @@
 -- What an effect shows to the users of one server, user by user, is what it shows there.
-use Rattle.std.proofs.Common.{◌≡◌, ℕ, Bool, true, false, cond, ◌&&◌, T, Option, Some, None, List}
+use Rattle.std.proofs.Common.{◌≡◌, ℕ, Bool, true, false, cond, ◌&&◌, Option, Some, None, List}
 use Rattle.std.proofs.Common.{[], ◌∷◌, ◌++◌, refl, sym, ◌∙◌, ap, map, nat_eq, filter, filter_map}
 use Rattle.std.proofs.Common.{if◌then◌else◌, option_map}
 use Rattle.std.proofs.lemmas.List.{append_assoc, map-append}
@@ -7,6 +7,8 @@ use Rattle.std.specs.Cmp.Lexicographic.{nat_list_cmp_total, bytes_decides, point
 use Rattle.std.specs.List.{AllByRecursion, cons_option, flat_map}
 use Rattle.std.specs.Option.{option_map_or}
 use Rattle.std.specs.FinMap.{entries, entries_sorted, values, find, is_sorted, get-entries}
+use Rattle.std.proofs.lemmas.Bool.{and_right}
+use Rattle.irc_names.specs.Lemmas.PlainFacts.{is_true}
 use Rattle.arrayvec.specs.ArrayVec.{ArrayVec}
 use Rattle.irc_names.specs.Fold.{key}
 use Rattle.irc_names.specs.Tables.{Table, fold_cmp, row}
@@ -23,10 +25,6 @@ use Rattle.irc_room.specs.Loops.Telling.{shown_at}
 use Rattle.irc_effects.specs.Found.{AreNamed}
 use Rattle.irc_room.specs.Loops.Viewing.{own_nick, line_for_own, viewers}
 
-true_is : (b : Bool) → T b → b ≡ true
-true_is true h = refl
-true_is false h = absurd h
-
 -- each user of a table is found by its own nickname
 abbrev IsStored : Table User → List ℕ × User → Type 0
 IsStored users e = row users (key e.1.nick) ≡ Some e.1
@@ -36,7 +34,7 @@ all_stored : (users : Table User) → AreNamed users → (front es : List (List 
 all_stored users named front [] is = tt
 all_stored users named front (e ∷ es) is =
     let sorted : is_sorted fold_cmp (front ++ e ∷ es) ≡ true = ap (is_sorted fold_cmp) is
-    ∙ true_is _ (entries_sorted users) in
+    ∙ is_true _ (entries_sorted users) in
     let at : row users e.0 ≡ Some e.1 =
     get-entries users e.0 ∙ ap (find fold_cmp e.0) (sym is)
     ∙ find-there nat_list_cmp_total e.0 e.1 front es
@@ -68,10 +66,6 @@ module _ (own : List ℕ) (room : Room) (effect : Effect) (line : Option (List �
   untold user b is out None = refl
   untold user b is out (Some l) =
       ap (λ t. if t then (user.nick, record { items = l }) ∷ [] else []) (is ∙ out)
-
-  both_false : (b c : Bool) → c ≡ false → (b && c) ≡ false
-  both_false true c e = e
-  both_false false c e = refl
 
   -- a showing to a user stays just where the user is one of the server
   kept_or_not : (user : User) → row room.users (key user.nick) ≡ Some user → (l : List ℕ)
@@ -126,7 +120,7 @@ module _ (own : List ℕ) (room : Room) (effect : Effect) (line : Option (List �
           ap (λ t. here (cons_option (if t then option_map (showing user)
           (shown_line room effect user) else None) rest)) unseen
           ∙ ap (λ t. t ++ here rest)
-          (sym (untold user _ refl (both_false (is_home own user) _ unseen) line))
+          (sym (untold user _ refl (and_right (is_home own user) _ unseen) line))
 
   all_told : (es : List (List ℕ × User)) → AllByRecursion (IsStored room.users) es
       → here (filter_map (shown_to room effect) (map (λ e. e.1) es)) ≡ flat_map (told_line line)

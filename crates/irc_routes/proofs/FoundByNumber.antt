@@ -8,13 +8,15 @@ use Rattle.std.specs.FinMap.{entries, entries_sorted, values, is_sorted, get-emp
 use Rattle.std.specs.FinMap.{find as find_key}
 use Rattle.std.specs.List.{find}
 use Rattle.std.specs.Option.{option_map, option_and_then}
+use Rattle.std.proofs.lemmas.Option.{same_Some}
+use Rattle.irc_names.specs.Lemmas.PlainFacts.{is_true}
 use Rattle.irc_names.specs.Tables.{Table, row, alter, fold_cmp}
 use Rattle.irc_names.specs.TableLaws.{same_fold, same_fold-refl, one_fold, row-alter, row-each}
 use Rattle.irc_tables.specs.Lemmas.OrderedEntries.{find-there, sorted-below}
 use Rattle.irc_routes.specs.Known.{Known, ServerRow, others, alone_known, row_of, has_token}
 use Rattle.irc_routes.specs.Known.{token_in, unless_behind, without_server, without_link}
 use Rattle.irc_routes.specs.Known.{IsNumbered}
-use Rattle.irc_routes.specs.Lemmas.TableRows.{told, row_passes}
+use Rattle.irc_routes.specs.Lemmas.TableRows.{row_passes}
 use Rattle.irc_routes.specs.Lemmas.NumberedRows.{find_none}
 
 -- ---- a server that is found by a number
@@ -25,9 +27,6 @@ record IsFound {X : Type 0} (p : X → Bool) (table : Table X) (x : X) : Type 0 
   there : row table name ≡ Some x
   passes : p x ≡ true
 
-pub some_value : {X : Type 0} (x y : X) → Some x ≡ Some y → x ≡ y
-some_value x y e = cc
-
 found_behind : {X : Type 0} (p : X → Bool) (table : Table X) (x : X)
     (front back : List (List ℕ × X)) → entries table ≡ front ++ back
     → find p (map (λ e. e.1) back) ≡ Some x → IsFound p table x
@@ -36,13 +35,13 @@ found_behind p table x front (e ∷ back) is found =
     elim (p e.1) as (λ b. p e.1 ≡ b → cond b (Some (e.1)) (find p (map (λ e. e.1) back)) ≡ Some x
     → IsFound p table x) [
       | true ↦ λ passes found.
-          let one = some_value e.1 x found in
+          let one = same_Some e.1 x found in
           record {
             name = e.0;
             there = get-entries table e.0 ∙ ap (find_key fold_cmp e.0) is
                 ∙ find-there nat_list_cmp_total e.0 e.1 front back
                 (sorted-below nat_list_cmp_total e.0 e.1 front back
-                (ap (is_sorted fold_cmp) (sym is) ∙ told _ (entries_sorted table)))
+                (ap (is_sorted fold_cmp) (sym is) ∙ is_true _ (entries_sorted table)))
                 ∙ ap (λ y. Some y) one;
             passes = ap p (sym one) ∙ passes;
           }
@@ -167,7 +166,7 @@ module _ (known : Known) (new : ServerRow) (is_new : row_of known new.name ≡ N
       where
         by : (b : Bool) → cond b (Some new) (row known.rows name) ≡ Some r
             → row known.rows name ≡ Some r
-        by true same = let clash = sym not_its ∙ ap (has_token link token) (some_value new r same)
+        by true same = let clash = sym not_its ∙ ap (has_token link token) (same_Some new r same)
             ∙ has in cc clash
         by false other = other
 
@@ -205,7 +204,7 @@ module _ (known : Known) (gone : ServerRow) (stood : row_of known gone.name ≡ 
     where
       by : (b : Bool) → same_fold name gone.name ≡ b → cond b None (row known.rows name) ≡ Some r
       by true same =
-          let one = some_value gone r
+          let one = same_Some gone r
           (sym stood ∙ ap (row known.rows) (sym (one_fold name gone.name same)) ∙ there) in
           let clash = sym not_its ∙ ap (has_token link token) one ∙ has in
           cc clash
@@ -251,7 +250,7 @@ module _ (known : Known) (lost : ℕ) (numbered : IsNumbered known)
       by false other e = record {
         stood = e;
         elsewhere = ap (λ (r : ServerRow). nat_eq r.link lost)
-            (sym (some_value s r e)) ∙ other;
+            (sym (same_Some s r e)) ∙ other;
       }
 
   is_left : (name : List ℕ) (r : ServerRow) → row_of left name ≡ Some r

@@ -5,6 +5,8 @@ use Rattle.std.proofs.lemmas.Bool.{and_parts, and_from}
 use Rattle.std.proofs.lemmas.Bool.Decides.{Decides-eqb}
 use Rattle.std.specs.FinMap.{get-empty, find as find_key}
 use Rattle.std.specs.Option.{option_map, option_and_then}
+use Rattle.std.proofs.lemmas.Option.{same_Some}
+use Rattle.std.specs.Cmp.{both_ways}
 use Rattle.irc_names.specs.Tables.{row, alter, fold_cmp}
 use Rattle.irc_names.specs.TableLaws.{same_fold, same_fold-refl, one_fold, row-alter, row-each}
 use Rattle.irc_tables.specs.FoldedRows.{table_of, IsInFoldedOrder}
@@ -14,8 +16,7 @@ use Rattle.irc_routes.specs.Known.{without_link, IsNumbered}
 use Rattle.irc_routes.specs.Lemmas.TableRows.{filtered-sorted, filtered-table}
 use Rattle.irc_routes.specs.Loops.Tokens.{TokenRow, token_key, token_entry, row_at, server_at}
 use Rattle.irc_routes.specs.Loops.Tokens.{is_on, HasToken, IsWithoutToken, AreElsewhere, AreTold}
-use Rattle.irc_routes.specs.Lemmas.DistinctLinks.{both_so}
-use Rattle.irc_routes.proofs.FoundByNumber.{some_value, token_alone, token_added, token_forgotten}
+use Rattle.irc_routes.proofs.FoundByNumber.{token_alone, token_added, token_forgotten}
 use Rattle.irc_routes.proofs.FoundByNumber.{token_lost}
 
 abbrev name_of : Option TokenRow → Option (List ℕ)
@@ -32,7 +33,7 @@ second_of (n ∷ ns) = first_of ns
 -- two keys are one where both parts are
 key_same : (link token a b : ℕ)
     → same_fold (token_key link token) (token_key a b) ≡ (nat_eq a link && nat_eq b token)
-key_same link token a b = both_so _ _ there back
+key_same link token a b = both_ways _ _ there back
   where
     there : same_fold (token_key link token) (token_key a b) ≡ true
         → (nat_eq a link && nat_eq b token) ≡ true
@@ -127,7 +128,7 @@ under_its_key (u ∷ tokens) key t found =
         → (find_key fold_cmp key (map token_entry tokens) ≡ Some t → token_key t.link t.token ≡ key)
         → cond b (Some u) (find_key fold_cmp key (map token_entry tokens)) ≡ Some t
         → token_key t.link t.token ≡ key
-    by true same later e = ap (λ (t : TokenRow). token_key t.link t.token) (sym (some_value u t e))
+    by true same later e = ap (λ (t : TokenRow). token_key t.link t.token) (sym (same_Some u t e))
         ∙ sym (one_fold key (token_key u.link u.token) same)
     by false other later e = later e
 

@@ -11,6 +11,7 @@ use Rattle.std.specs.List.Sorted.{IsPermutation, IsSortedByKey}
 use Rattle.std.specs.Ordering.{is_lt, nat_cmp}
 use Rattle.std.specs.declared.cmp.Ordering.{Ordering}
 use Rattle.std.specs.declared.cmp.Ordering.TheVariants.{Less, Equal, Greater}
+use Rattle.std.proofs.lemmas.Bool.{and_from, or_from}
 use Rattle.irc_net.specs.ByteNetwork.{ByteNetwork}
 use Rattle.irc_net.specs.Whole.{no_wires}
 use Rattle.irc_net.specs.Making.{IsMadeOf, config_name, new_node}
@@ -23,7 +24,7 @@ use Rattle.irc_net.specs.View.{KnownPeer, known_peer}
 use Rattle.irc_script.specs.Loops.Configs.{AreConfigured, IsOwnConfig}
 use Rattle.irc_script.specs.Networks.{exceeds, first_net, first_node, in_name_order, is_greater}
 use Rattle.irc_script.specs.RunLaws.{are_ordered}
-use Rattle.irc_script.proofs.InOrder.{both_so, exceeds_one, is_in_order, neither, none_less}
+use Rattle.irc_script.proofs.InOrder.{exceeds_one, is_in_order, none_less}
 use Rattle.irc_script.proofs.InOrder.{none_less_too, one_order, order_moves, turned}
 
 not_exceeds : (x y : Name) → is_lt (slice_cmp nat_cmp y x) ≡ false → exceeds x y ≡ false
@@ -58,9 +59,9 @@ names_in_order (config ∷ next ∷ configs) sorted =
     let rest = names_in_order (next ∷ configs) (shifted config (next ∷ configs) sorted) in
     let first = not_exceeds (config_name config) (config_name next)
     (sorted 0 config (omega arith) (two (length configs))) in
-    both_so (not (exceeds_one (config_name config) (map config_name (next ∷ configs))))
+    and_from (not (exceeds_one (config_name config) (map config_name (next ∷ configs))))
     (are_ordered (map config_name (next ∷ configs)))
-    (ap not (neither (exceeds (config_name config) (config_name next))
+    (ap not (or_from (exceeds (config_name config) (config_name next))
     (exceeds_one (config_name config) (map config_name configs)) first
     (none_less_too (config_name config) (config_name next) (map config_name configs) first
     (none_less (config_name next) (map config_name configs) rest)))) rest

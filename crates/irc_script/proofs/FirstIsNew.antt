@@ -2,7 +2,7 @@
 use Rattle.std.proofs.Common.{◌≡◌, ◌≤◌, ◌<◌, ◌+◌, ℕ, zero, suc, Bool, true, false, true≢false, ◌&&◌}
 use Rattle.std.proofs.Common.{◌||◌, not, cond, nat_lt, Option, Some, None, is_some, unwrap_or, List}
 use Rattle.std.proofs.Common.{[], ◌∷◌, ◌++◌, codes, refl, sym, ◌∙◌, ap, subst, arith, length, map}
-use Rattle.std.proofs.Common.{count_by, if◌then◌else◌}
+use Rattle.std.proofs.Common.{count_by, if◌then◌else◌, add-one-le}
 use Rattle.std.proofs.lemmas.Bool.{ltb-true, or_parts}
 use Rattle.std.proofs.lemmas.List.{length-append}
 use Rattle.std.proofs.lemmas.List.Elements.{All-from_recursion, recursion_from_All}
@@ -88,12 +88,9 @@ one_named names name are next = record {
   each = all_behind names name are.each next.server;
   once = λ server among. by server among (tell server name);
   few = subst (λ n. n ≤ max_script_servers) (sym (length-append names (name ∷ [])))
-      (one_more (length names) max_script_servers next.room);
+      (add-one-le next.room);
 }
   where
-    one_more : (n m : ℕ) → n < m → n + 1 ≤ m
-    one_more n m less = omega (arith, less)
-
     last : (k n : ℕ) → n ≡ k + (1 + 0) → k ≡ 0 → n ≡ 1
     last k n is none = omega (arith, is, none)
 

@@ -1,6 +1,6 @@
 -- Names in order.
-use Rattle.std.proofs.Common.{◌≡◌, ℕ, ◌+◌, Bool, true, false, cond, not, ◌&&◌, List, [], ◌∷◌, ap}
-use Rattle.std.proofs.Common.{sym, refl, ◌∙◌, arith, suc, ◌||◌, rules}
+use Rattle.std.proofs.Common.{◌≡◌, ℕ, ◌+◌, Bool, true, false, cond, not, List, [], ◌∷◌, ap}
+use Rattle.std.proofs.Common.{sym, refl, ◌∙◌, arith, suc, rules, add_left_cancel}
 use Rattle.std.specs.Cmp.Lexicographic.{slice_cmp}
 use Rattle.std.specs.FinMap.{nat_cmp-IsAntisymmetric, slice_cmp-IsAntisymmetric}
 use Rattle.std.specs.List.{list_any, sum_by}
@@ -13,6 +13,7 @@ use Rattle.std.proofs.lemmas.List.Sorted.{IsPermutation-cons, IsPermutation-refl
 use Rattle.std.proofs.lemmas.List.Sorted.{IsPermutation-swap, IsPermutation-trans}
 use Rattle.std.proofs.lemmas.List.Sorted.{sum_by-IsPermutation}
 use Rattle.std.proofs.lemmas.List.Sums.{sum_by-cons}
+use Rattle.std.proofs.lemmas.Bool.{not-true, and_parts, and_from, or_from, or_parts}
 use Rattle.irc_relay.specs.Links.{Name}
 use Rattle.irc_script.specs.Networks.{exceeds, in_name_order, is_greater, name_put_in}
 use Rattle.irc_script.specs.RunLaws.{OrderIsSo, are_ordered}
@@ -37,27 +38,6 @@ pub turned : (x y : Name) (o : Ordering) → slice_cmp nat_cmp x y ≡ o
     → slice_cmp nat_cmp y x ≡ ordering_reverse o
 turned x y o is = nat_list_cmp_total.antisymm y x ∙ ap ordering_reverse is
 
-either : (a b : Bool) → (a || b) ≡ false → (a ≡ false) × (b ≡ false)
-either true b none = cc none
-either false b none = (refl, none)
-
-pub neither : (a b : Bool) → a ≡ false → b ≡ false → (a || b) ≡ false
-neither true b p q = cc p
-neither false b p q = q
-
-pub both_so : (a b : Bool) → a ≡ true → b ≡ true → (a && b) ≡ true
-both_so true b p q = q
-both_so false b p q = cc p
-
-both : (a b : Bool) → (a && b) ≡ true → (a ≡ true) × (b ≡ true)
-both true true is = (refl, refl)
-both true false is = cc is
-both false b is = cc is
-
-not_true : (b : Bool) → not b ≡ true → b ≡ false
-not_true true is = sym is
-not_true false is = refl
-
 antisymmetric : (x y : Name) → slice_cmp nat_cmp x y ≡ Equal → x ≡ y
 antisymmetric = slice_cmp-IsAntisymmetric nat_cmp-IsAntisymmetric
 
@@ -72,7 +52,7 @@ less_is_nowhere : (x y : Name) (ys : List Name) → slice_cmp nat_cmp x y ≡ Le
     → exceeds_one y ys ≡ false → times x ys ≡ 0
 less_is_nowhere x y [] less none = refl
 less_is_nowhere x y (z ∷ ys) less none =
-    let parts = either (exceeds y z) (exceeds_one y ys) none in
+    let parts = or_parts (exceeds y z) (exceeds_one y ys) none in
     no_more (times x (z ∷ ys)) (one x z) (times x ys) (sum_by-cons (one x) z ys)
     (by (slice_cmp nat_cmp y z) refl parts.0)
     (less_is_nowhere x y ys less parts.1)
@@ -95,22 +75,19 @@ never n is = omega (arith, is)
 behind_front : (x y : Name) (xs ys : List Name) → x ≡ y
     → ((z : Name) → times z (x ∷ xs) ≡ times z (y ∷ ys)) → (z : Name) → times z xs ≡ times z ys
 behind_front x y xs ys front same z =
-    left_alone (one z x) (times z xs) (times z ys) (sym (sum_by-cons (one z) x xs) ∙ same z
-    ∙ ap (λ w. times z (w ∷ ys)) (sym front) ∙ sum_by-cons (one z) x ys)
-  where
-    left_alone : (n a b : ℕ) → n + a ≡ n + b → a ≡ b
-    left_alone n a b e = omega (arith, e)
-
+    add_left_cancel (one z x) (sym (sum_by-cons (one z) x xs) ∙ same z
+          ∙ ap (λ w. times z (w ∷ ys)) (sym front) ∙ sum_by-cons (one z) x ys)
 nowhere_in : (x y : Name) (ys : List Name) → slice_cmp nat_cmp x y ≡ Less → exceeds_one y ys ≡ false
     → times x (y ∷ ys) ≡ 0
 nowhere_in x y ys less none = no_more (times x (y ∷ ys)) (one x y) (times x ys)
     (sum_by-cons (one x) y ys) (ap is_equal less) (less_is_nowhere x y ys less none)
 
 pub none_less : (x : Name) (xs : List Name) → are_ordered (x ∷ xs) ≡ true → exceeds_one x xs ≡ false
-none_less x xs o = not_true (exceeds_one x xs) (both (not (exceeds_one x xs)) (are_ordered xs) o).0
+none_less x xs o =
+    not-true (exceeds_one x xs) (and_parts (not (exceeds_one x xs)) (are_ordered xs) o).0
 
 rest_ordered : (x : Name) (xs : List Name) → are_ordered (x ∷ xs) ≡ true → are_ordered xs ≡ true
-rest_ordered x xs o = (both (not (exceeds_one x xs)) (are_ordered xs) o).1
+rest_ordered x xs o = (and_parts (not (exceeds_one x xs)) (are_ordered xs) o).1
 
 -- lists in order that have each name as often are the same
 counted_same : (xs ys : List Name) → are_ordered xs ≡ true → are_ordered ys ≡ true
@@ -154,23 +131,23 @@ put_moves x (y ∷ ys) = by (put_moves x ys) (is_greater (slice_cmp nat_cmp x y)
 -- what no name is less than, is it also once a name that is not less is put to them
 none_less_put : (y x : Name) (ys : List Name) → exceeds y x ≡ false → exceeds_one y ys ≡ false
     → exceeds_one y (name_put_in x ys) ≡ false
-none_less_put y x [] first rest = neither (exceeds y x) false first refl
+none_less_put y x [] first rest = or_from (exceeds y x) false first refl
 none_less_put y x (z ∷ ys) first rest = by (none_less_put y x ys first
-    (either (exceeds y z) (exceeds_one y ys) rest).1) (is_greater (slice_cmp nat_cmp x z))
+    (or_parts (exceeds y z) (exceeds_one y ys) rest).1) (is_greater (slice_cmp nat_cmp x z))
   where
     by : exceeds_one y (name_put_in x ys) ≡ false → (b : Bool)
         → exceeds_one y (cond b (z ∷ name_put_in x ys) (x ∷ z ∷ ys)) ≡ false
-    by more true = neither (exceeds y z) (exceeds_one y (name_put_in x ys))
-        (either (exceeds y z) (exceeds_one y ys) rest).0 more
-    by more false = neither (exceeds y x) (exceeds_one y (z ∷ ys)) first rest
+    by more true = or_from (exceeds y z) (exceeds_one y (name_put_in x ys))
+        (or_parts (exceeds y z) (exceeds_one y ys) rest).0 more
+    by more false = or_from (exceeds y x) (exceeds_one y (z ∷ ys)) first rest
 
 -- what is not greater than a name is not greater than those behind it
 pub none_less_too : (x y : Name) (ys : List Name) → is_greater (slice_cmp nat_cmp x y) ≡ false
     → exceeds_one y ys ≡ false → exceeds_one x ys ≡ false
 none_less_too x y [] not_greater rest = refl
 none_less_too x y (z ∷ ys) not_greater rest =
-    let parts = either (exceeds y z) (exceeds_one y ys) rest in
-    neither (exceeds x z) (exceeds_one x ys)
+    let parts = or_parts (exceeds y z) (exceeds_one y ys) rest in
+    or_from (exceeds x z) (exceeds_one x ys)
     (by (slice_cmp nat_cmp x y) refl not_greater (slice_cmp nat_cmp y z) refl parts.0)
     (none_less_too x y ys not_greater parts.1)
   where
@@ -191,18 +168,18 @@ put_ordered x (y ∷ ys) o = by (put_ordered x ys (rest_ordered y ys o)) (slice_
     by : are_ordered (name_put_in x ys) ≡ true → (c : Ordering) → slice_cmp nat_cmp x y ≡ c
         → are_ordered (cond (is_greater c) (y ∷ name_put_in x ys) (x ∷ y ∷ ys)) ≡ true
     by more Greater is =
-        both_so (not (exceeds_one y (name_put_in x ys))) (are_ordered (name_put_in x ys))
+        and_from (not (exceeds_one y (name_put_in x ys))) (are_ordered (name_put_in x ys))
         (ap not (none_less_put y x ys (ap is_greater (turned x y Greater is)) (none_less y ys o)))
         more
     by more Less is =
         let not_greater = ap is_greater is in
-        both_so (not (exceeds_one x (y ∷ ys))) (are_ordered (y ∷ ys))
-        (ap not (neither (exceeds x y) (exceeds_one x ys) not_greater
+        and_from (not (exceeds_one x (y ∷ ys))) (are_ordered (y ∷ ys))
+        (ap not (or_from (exceeds x y) (exceeds_one x ys) not_greater
         (none_less_too x y ys not_greater (none_less y ys o)))) o
     by more Equal is =
         let not_greater = ap is_greater is in
-        both_so (not (exceeds_one x (y ∷ ys))) (are_ordered (y ∷ ys))
-        (ap not (neither (exceeds x y) (exceeds_one x ys) not_greater
+        and_from (not (exceeds_one x (y ∷ ys))) (are_ordered (y ∷ ys))
+        (ap not (or_from (exceeds x y) (exceeds_one x ys) not_greater
         (none_less_too x y ys not_greater (none_less y ys o)))) o
 
 pub order_moves : (names : List Name) → IsPermutation names (in_name_order names)

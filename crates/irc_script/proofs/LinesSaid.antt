@@ -1,13 +1,15 @@
 -- What each line of a stream is.
-use Rattle.std.proofs.Common.{◌≡◌, ℕ, ◌≤◌, ◌<◌, Bool, true, false, ◌||◌, cond, Some, None, List, []}
+use Rattle.std.proofs.Common.{◌≡◌, ℕ, ◌<◌, Bool, true, false, ◌||◌, cond, Some, None, List, []}
 use Rattle.std.proofs.Common.{◌∷◌, length, take, zero, suc, refl, ap, subst, sym, not, ◌&&◌, ◌∙◌}
-use Rattle.std.proofs.Common.{arith, length-take}
+use Rattle.std.proofs.Common.{arith}
 use Rattle.arrayvec.specs.ArrayVec.{ArrayVec}
 use Rattle.irc_line.specs.Carried.{IsCarried, is_carried}
 use Rattle.irc_line.specs.Framed.{bytes_of}
 use Rattle.irc_script.proofs.Playing.{IsCarriedLine}
 use Rattle.std.specs.List.{AllByRecursion, filter_map, cons_option, list_any, onto_first}
 use Rattle.std.specs.List.{slice_split}
+use Rattle.std.proofs.lemmas.Bool.{or_parts}
+use Rattle.irc_names.specs.Lemmas.PlainFacts.{length-take_bound}
 use Rattle.irc_line.specs.Bytes.{is_line_end, has_nul, is_nul, cut}
 use Rattle.irc_line.specs.Limits.{max_line}
 use Rattle.irc_line.specs.Lines.{IsLine, earlier_pieces, line_of, lines}
@@ -38,20 +40,13 @@ earlier_too [] all = tt
 earlier_too (piece ∷ []) all = tt
 earlier_too (piece ∷ next ∷ pieces) all = (all.0, earlier_too (next ∷ pieces) all.1)
 
-neither : (a b : Bool) → (a || b) ≡ false → (a ≡ false) × (b ≡ false)
-neither true b none = cc none
-neither false b none = (refl, none)
-
 none_in_front : (p : ℕ → Bool) (n : ℕ) (xs : List ℕ) → list_any p xs ≡ false
     → list_any p (take n xs) ≡ false
 none_in_front p zero xs none = refl
 none_in_front p (suc n) [] none = refl
 none_in_front p (suc n) (x ∷ xs) none =
-    let both = neither (p x) (list_any p xs) none in
+    let both = or_parts (p x) (list_any p xs) none in
     ap (λ b. b || list_any p (take n xs)) both.0 ∙ none_in_front p n xs both.1
-
-length_at_most : (n : ℕ) (xs : List ℕ) → length (take n xs) ≤ n
-length_at_most n xs = omega (arith, length-take {A = ℕ} n xs)
 
 some_length : (x : ℕ) (xs : List ℕ) → 0 < length (take max_line (x ∷ xs))
 some_length x xs = omega arith
@@ -61,7 +56,7 @@ cut_is_line : (x : ℕ) (xs : List ℕ) → HasNoEnd (x ∷ xs) → has_nul (x �
 unfolding cut
 cut_is_line x xs no_end no_nul = record {
   some_byte = some_length x xs;
-  fits = length_at_most max_line (x ∷ xs);
+  fits = length-take_bound max_line (x ∷ xs);
   no_nul = none_in_front is_nul max_line (x ∷ xs) no_nul;
   no_end = none_in_front is_line_end max_line (x ∷ xs) no_end;
 }
@@ -95,8 +90,8 @@ both_none : (line : List ℕ) → list_any is_nul line ≡ false → list_any is
     → is_carried line ≡ true
 both_none [] no_nul no_end = refl
 both_none (x ∷ xs) no_nul no_end =
-    let first = neither (is_nul x) (list_any is_nul xs) no_nul in
-    let second = neither (is_line_end x) (list_any is_line_end xs) no_end in
+    let first = or_parts (is_nul x) (list_any is_nul xs) no_nul in
+    let second = or_parts (is_line_end x) (list_any is_line_end xs) no_end in
     ap (λ b. not (b || is_line_end x) && is_carried xs) first.0
     ∙ ap (λ b. not b && is_carried xs) second.0 ∙ both_none xs first.1 second.1
 

@@ -1,58 +1,40 @@
 -- What holds of each element of a list holds of all that is made of them.
-use Rattle.std.proofs.Common.{◌≡◌, ℕ, Bool, true, false, cond, ◌&&◌, ◌||◌, is_some, Option, Some}
-use Rattle.std.proofs.Common.{None, List, [], ◌∷◌, ◌++◌, refl, sym, ◌∙◌, ap, map, filter}
+use Rattle.std.proofs.Common.{◌≡◌, ℕ, Bool, true, false, cond, is_some, Option, Some}
+use Rattle.std.proofs.Common.{None, List, [], ◌∷◌, ◌++◌, refl, sym, ◌∙◌, ap, map}
 use Rattle.std.proofs.Common.{filter_map, if◌then◌else◌}
 use Rattle.std.proofs.lemmas.List.Folds.{list_all-map}
 use Rattle.std.specs.FinMap.{FinMap, contains_key-keys, entries, find, get, keys}
 use Rattle.std.specs.List.{AllByRecursion, cons_option, flat_map, list_all, list_any}
 use Rattle.std.specs.Ordering.{nat_cmp}
+use Rattle.std.proofs.lemmas.Bool.{or_right, or_left, and_from}
+use Rattle.std.specs.Cmp.{second_so, first_so}
 use Rattle.irc_routes.specs.Known.{link_key}
 use Rattle.irc_stage.specs.Lemmas.Numbers.{one_number, same_number, same_number-refl}
-
-both : (a b : Bool) → a ≡ true → b ≡ true → (a && b) ≡ true
-both true b one other = other
-both false b one other = one
-
-first : (a b : Bool) → (a && b) ≡ true → a ≡ true
-first true b is = refl
-first false b is = is
-
-rest : (a b : Bool) → (a && b) ≡ true → b ≡ true
-rest true b is = is
-rest false b is = absurd (cc is)
-
-pub either_first : (a b : Bool) → a ≡ true → (a || b) ≡ true
-either_first true b is = refl
-either_first false b is = absurd (cc is)
-
-pub either_second : (a b : Bool) → b ≡ true → (a || b) ≡ true
-either_second true b is = refl
-either_second false b is = is
 
 -- ---- lists
 
 pub all-one : {X : Type 0} (p : X → Bool) (x : X) → p x ≡ true → list_all p (x ∷ []) ≡ true
-all-one p x is = both (p x) true is refl
+all-one p x is = and_from (p x) true is refl
 
 pub all-append : {X : Type 0} (p : X → Bool) (a b : List X) → list_all p a ≡ true
     → list_all p b ≡ true → list_all p (a ++ b) ≡ true
 all-append p [] b one other = other
 all-append p (x ∷ a) b one other =
-    both (p x) (list_all p (a ++ b)) (first (p x) (list_all p a) one)
-    (all-append p a b (rest (p x) (list_all p a) one) other)
+    and_from (p x) (list_all p (a ++ b)) (first_so (p x) (list_all p a) one)
+    (all-append p a b (second_so (p x) (list_all p a) one) other)
 
 pub all-map : {X Y : Type 0} (p : X → Bool) (q : Y → Bool) (h : X → Y) → ((x : X) → p x ≡ true
     → q (h x) ≡ true) → (xs : List X) → list_all p xs ≡ true → list_all q (map h xs) ≡ true
 all-map p q h gives [] all = refl
 all-map p q h gives (x ∷ xs) all =
-    both (q (h x)) (list_all q (map h xs)) (gives x (first (p x) (list_all p xs) all))
-    (all-map p q h gives xs (rest (p x) (list_all p xs) all))
+    and_from (q (h x)) (list_all q (map h xs)) (gives x (first_so (p x) (list_all p xs) all))
+    (all-map p q h gives xs (second_so (p x) (list_all p xs) all))
 
 pub all-each : {X Y : Type 0} (q : Y → Bool) (h : X → Y) → ((x : X) → q (h x) ≡ true)
     → (xs : List X) → list_all q (map h xs) ≡ true
 all-each q h gives [] = refl
 all-each q h gives (x ∷ xs) =
-    both (q (h x)) (list_all q (map h xs)) (gives x) (all-each q h gives xs)
+    and_from (q (h x)) (list_all q (map h xs)) (gives x) (all-each q h gives xs)
 
 pub all-flat : {X Y : Type 0} (q : Y → Bool) (f : X → List Y) → ((x : X) → list_all q (f x) ≡ true)
     → (xs : List X) → list_all q (flat_map f xs) ≡ true
@@ -63,27 +45,17 @@ pub all-weaker : {X : Type 0} (p q : X → Bool) → ((x : X) → p x ≡ true �
     → list_all p xs ≡ true → list_all q xs ≡ true
 all-weaker p q gives [] all = refl
 all-weaker p q gives (x ∷ xs) all =
-    both (q x) (list_all q xs) (gives x (first (p x) (list_all p xs) all))
-    (all-weaker p q gives xs (rest (p x) (list_all p xs) all))
+    and_from (q x) (list_all q xs) (gives x (first_so (p x) (list_all p xs) all))
+    (all-weaker p q gives xs (second_so (p x) (list_all p xs) all))
 
 -- what the test tells of each
 pub all-told : {X : Type 0} (p : X → Bool) (P : X → Type 0) → ((x : X) → p x ≡ true → P x)
     → (xs : List X) → list_all p xs ≡ true → AllByRecursion P xs
 all-told p P tells [] all = tt
 all-told p P tells (x ∷ xs) all = (
-  tells x (first (p x) (list_all p xs) all),
-  all-told p P tells xs (rest (p x) (list_all p xs) all),
+  tells x (first_so (p x) (list_all p xs) all),
+  all-told p P tells xs (second_so (p x) (list_all p xs) all),
 )
-
-pub all-filter : {X : Type 0} (p b : X → Bool) (xs : List X) → list_all p xs ≡ true
-    → list_all p (filter b xs) ≡ true
-all-filter p b [] all = refl
-all-filter p b (x ∷ xs) all = by (b x) (all-filter p b xs (rest (p x) (list_all p xs) all))
-  where
-    by : (c : Bool) → list_all p (filter b xs) ≡ true
-        → list_all p (cond c (x ∷ filter b xs) (filter b xs)) ≡ true
-    by true later = both (p x) (list_all p (filter b xs)) (first (p x) (list_all p xs) all) later
-    by false later = later
 
 -- of those that pass a test, something is made
 pub all-picked : {X Y : Type 0} (p : X → Bool) (q : Y → Bool) (b : X → Bool) (g : X → Y)
@@ -91,14 +63,15 @@ pub all-picked : {X Y : Type 0} (p : X → Bool) (q : Y → Bool) (b : X → Boo
     → list_all q (filter_map (λ (x : X). if b x then Some (g x) else None) xs) ≡ true
 all-picked p q b g gives [] all = refl
 all-picked {X} p q b g gives (x ∷ xs) all =
-    by (b x) (all-picked p q b g gives xs (rest (p x) (list_all p xs) all))
+    by (b x) (all-picked p q b g gives xs (second_so (p x) (list_all p xs) all))
   where
     by : (c : Bool) → list_all q (filter_map (λ (y : X). if b y then Some (g y) else None) xs)
         ≡ true → list_all q (cons_option (if c then Some (g x) else None)
         (filter_map (λ (y : X). if b y then Some (g y) else None) xs)) ≡ true
     by true later =
-        both (q (g x)) (list_all q (filter_map (λ (y : X). if b y then Some (g y) else None) xs))
-        (gives x (first (p x) (list_all p xs) all)) later
+        and_from (q (g x))
+            (list_all q (filter_map (λ (y : X). if b y then Some (g y) else None) xs))
+        (gives x (first_so (p x) (list_all p xs) all)) later
     by false later = later
 
 pub all-gained : {X Y : Type 0} (q : Y → Bool) (h : X → Option Y) → ((x : X) (y : Y) → h x ≡ Some y
@@ -109,7 +82,7 @@ all-gained {X} {Y} q h gives (x ∷ xs) = by (h x) refl (all-gained q h gives xs
     by : (o : Option Y) → h x ≡ o → list_all q (filter_map h xs) ≡ true
         → list_all q (cons_option o (filter_map h xs)) ≡ true
     by None is later = later
-    by (Some y) is later = both (q y) (list_all q (filter_map h xs)) (gives x y is) later
+    by (Some y) is later = and_from (q y) (list_all q (filter_map h xs)) (gives x y is) later
 
 -- ---- maps by number
 
@@ -117,10 +90,10 @@ all_listed : (p : ℕ → Bool) (xs : List ℕ)
     → ((q : ℕ) → list_any (same_number q) xs ≡ true → p q ≡ true) → list_all p xs ≡ true
 all_listed p [] at = refl
 all_listed p (x ∷ xs) at =
-    both (p x) (list_all p xs)
-    (at x (either_first (same_number x x) (list_any (same_number x) xs) (same_number-refl x)))
+    and_from (p x) (list_all p xs)
+    (at x (or_left (same_number x x) (list_any (same_number x) xs) (same_number-refl x)))
     (all_listed p xs
-    (λ q is. at q (either_second (same_number q x) (list_any (same_number q) xs) is)))
+    (λ q is. at q (or_right (same_number q x) (list_any (same_number q) xs) is)))
 
 pub all_keys : {X : Type 0} (m : FinMap nat_cmp X) (p : ℕ → Bool)
     → ((q : ℕ) → is_some (get m q) ≡ true → p q ≡ true) → list_all p (keys m) ≡ true
@@ -135,11 +108,11 @@ pub all_found : (p : ℕ → Bool) (q : ℕ) (numbers : List ℕ) → list_all p
     → is_some (find nat_cmp q (map link_key numbers)) ≡ true → p q ≡ true
 all_found p q [] all is = absurd (cc is)
 all_found p q (number ∷ numbers) all is = by (same_number q number) refl
-    (all_found p q numbers (rest (p number) (list_all p numbers) all)) is
+    (all_found p q numbers (second_so (p number) (list_all p numbers) all)) is
   where
     by : (b : Bool) → same_number q number ≡ b
         → (is_some (find nat_cmp q (map link_key numbers)) ≡ true → p q ≡ true)
         → is_some (cond b (Some tt) (find nat_cmp q (map link_key numbers))) ≡ true → p q ≡ true
     by true one later is =
-        ap p (one_number q number one) ∙ first (p number) (list_all p numbers) all
+        ap p (one_number q number one) ∙ first_so (p number) (list_all p numbers) all
     by false two later is = later is

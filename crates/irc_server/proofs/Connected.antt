@@ -10,6 +10,8 @@ use Rattle.std.specs.FinMap.{remove, retain_keys}
 use Rattle.std.specs.List.{cons_option, flat_map, list_all, list_any}
 use Rattle.std.specs.Option.{option_map_or}
 use Rattle.std.specs.Ordering.{nat_cmp}
+use Rattle.std.specs.Cmp.{first_so}
+use Rattle.irc_names.specs.Lemmas.PlainFacts.{and_neither, and_not}
 use Rattle.irc_batch.specs.Batches.{Sent, end_of, end_of_link, line_on, line_to}
 use Rattle.irc_batch.specs.declared.close_reason.CloseReason.{CloseReason}
 use Rattle.irc_batch.specs.declared.close_reason.CloseReason.TheVariants as reason
@@ -123,15 +125,10 @@ record Quiet (clients links : ℕ → Bool) (s : Served) : Type 0 where
   linked : (q : ℕ) → has_link s.state q ≡ links q
   no_end : list_all is_no_end s.out ≡ true
 
-and_not_false : (a b : Bool) → b ≡ false → a ≡ (a && not b)
-and_not_false true true is = cc is
-and_not_false true false is = refl
-and_not_false false b is = refl
-
 counted : (clients links : ℕ → Bool) (s : Served) → Quiet clients links s → Counted clients links s
 counted clients links s quiet = record {
   there = λ q. quiet.there q
-      ∙ and_not_false (clients q) (is_client_ended q s.out) (no_client_ends q s.out quiet.no_end);
+      ∙ and_not (clients q) (is_client_ended q s.out) (no_client_ends q s.out quiet.no_end);
   were = λ q is. absurd (cc (sym (no_client_ends q s.out quiet.no_end) ∙ is));
   linked = quiet.linked;
 }
@@ -300,7 +297,7 @@ module _ (clients links : ℕ → Bool) where
   client_ended_counts nick words s so = record {
     there = λ q. kept_is s.state.clients nick q (get s.state.clients q) refl
         ∙ ap (λ b. b && not (here q)) (so.there q)
-        ∙ both (clients q) (is_client_ended q s.out) (here q)
+        ∙ and_neither (clients q) (is_client_ended q s.out) (here q)
         ∙ ap (λ b. clients q && not b) (sym (ended_all q));
     were = λ q is. by q (is_client_ended q s.out) refl (here q) refl (sym (ended_all q) ∙ is);
     linked = so.linked;
@@ -323,25 +320,16 @@ module _ (clients links : ℕ → Bool) where
           (lines_end_none s.state.clients (record { viewer = nick; line = error_line words })))
           ∙ ended_is s.state.clients nick q)
 
-      both : (a b c : Bool) → ((a && not b) && not c) ≡ (a && not (b || c))
-      both true true c = refl
-      both true false c = refl
-      both false b c = refl
-
       some_here : (o : Option Client) → option_map_or (is_client nick) o false ≡ true
           → is_some o ≡ true
       some_here None is = cc is
       some_here (Some c) is = refl
 
-      first : (a b : Bool) → (a && b) ≡ true → a ≡ true
-      first true b is = refl
-      first false b is = is
-
       by : (q : ℕ) (b : Bool) → is_client_ended q s.out ≡ b → (c : Bool) → here q ≡ c
           → (b || here q) ≡ true → clients q ≡ true
       by q true before c now is = so.were q before
       by q false before true now is =
-          first (clients q) (not (is_client_ended q s.out))
+          first_so (clients q) (not (is_client_ended q s.out))
           (sym (so.there q) ∙ some_here (get s.state.clients q) now)
       by q false before false now is = absurd (cc (sym now ∙ is))
 

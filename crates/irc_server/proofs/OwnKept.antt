@@ -8,6 +8,7 @@ use Rattle.std.specs.FinMap.{entries, from_entries, get, get-from_entries}
 use Rattle.std.specs.Cmp.{nat_cmp_total}
 use Rattle.std.specs.List.{flat_map, list_all}
 use Rattle.std.specs.Ordering.{nat_cmp}
+use Rattle.irc_names.specs.Lemmas.PlainFacts.{list_all-filter}
 use Rattle.irc_batch.specs.Batches.{Sent, end_of, is_number, line_on, line_to}
 use Rattle.irc_line.specs.Messages.{Written, text}
 use Rattle.irc_room.specs.effect.Effect.{Effect}
@@ -35,7 +36,7 @@ use Rattle.irc_stage.specs.Lemmas.Counting.{get-kept}
 use Rattle.irc_stage.specs.Lemmas.Numbers.{get-each}
 use Rattle.irc_server.specs.DeedTold.{deed_told, deeds_told, forgotten, titled_view}
 use Rattle.irc_server.specs.Own.{is_its_own}
-use Rattle.irc_server.proofs.AllOf.{all-append, all-filter, all-flat, all-gained, all-map}
+use Rattle.irc_server.proofs.AllOf.{all-append, all-flat, all-gained, all-map}
 use Rattle.irc_server.proofs.AllOf.{all-picked, all_entries, all_found, all_keys}
 use Rattle.irc_server.proofs.MetEnds.{left_met, there}
 use Rattle.irc_commands.specs.Closing.{error_line}
@@ -101,7 +102,8 @@ module _ (start : View) where
   met_own ends had =
       all-map (λ (e : ℕ × End). had_link start e.0) (had_link start) (λ (e : ℕ × End). e.0)
       (λ e is. is) _
-      (all-filter (λ (e : ℕ × End). had_link start e.0) (λ (e : ℕ × End). is_met e.1) (entries ends)
+      (list_all-filter (λ (e : ℕ × End). had_link start e.0) (λ (e : ℕ × End). is_met e.1)
+            (entries ends)
       (all_entries ends (had_link start) had))
 
   toward_own : (ends : Ends) (known : Known) → ((link : ℕ) → is_some (get ends link) ≡ true
@@ -120,7 +122,7 @@ module _ (start : View) where
   but_own : (arrival : Option ℕ) (links : List ℕ) → list_all (had_link start) links ≡ true
       → list_all (had_link start) (but arrival links) ≡ true
   but_own arrival links had =
-      all-filter (had_link start) (λ link. not (is_number arrival link)) links had
+      list_all-filter (had_link start) (λ link. not (is_number arrival link)) links had
 
   ways_own : (arrival : Option ℕ) (effect : Effect) (s : Served) → IsOwn start s
       → list_all (had_link start) (ways_at s.state arrival effect) ≡ true

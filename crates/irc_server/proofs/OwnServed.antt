@@ -3,7 +3,7 @@
 use Rattle.std.proofs.Common.{◌≡◌, ℕ, Bool, true, false, cond, ◌||◌, nat_eq, is_none, is_some}
 use Rattle.std.proofs.Common.{unwrap_or, Option, Some, None, Result, Ok, Err, List, [], ◌∷◌, refl}
 use Rattle.std.proofs.Common.{sym, ◌∙◌, ap, subst, if◌then◌else◌}
-use Rattle.std.proofs.lemmas.Bool.{eq-eqb}
+use Rattle.std.proofs.lemmas.Bool.{eq-eqb, or_right, or_left}
 use Rattle.std.specs.FinMap.{get, insert}
 use Rattle.std.specs.List.{list_all}
 use Rattle.std.specs.Option.{option_map_or}
@@ -51,7 +51,7 @@ use Rattle.irc_server.specs.LinkServed.{opening_parts, owes}
 use Rattle.irc_server.specs.Lemmas.StayingEnds.{told_by_keeps_ends}
 use Rattle.irc_server.specs.Served.{ReadEvent, of_client, link_up, link_says, link_down, served}
 use Rattle.irc_server.specs.Own.{ServedGoesToItsOwn, ServedKeepsEnds, is_its_own, is_on_new}
-use Rattle.irc_server.proofs.AllOf.{all-each, all-one, all-weaker, either_first, either_second}
+use Rattle.irc_server.proofs.AllOf.{all-each, all-one, all-weaker}
 use Rattle.irc_server.proofs.MetEnds.{added_met, left_no_more, put_met, put_no_more, put_there}
 use Rattle.irc_server.proofs.MetEnds.{unlinked_met}
 use Rattle.irc_server.proofs.OwnKept.{IsOwn, StaysOwn, all_own, deed_own, deeds_own}
@@ -302,7 +302,7 @@ left : (view : View) (read_event : ReadEvent) (s : Served) → IsOwn view s
 left view read_event s own = record {
   met = own.met;
   out = all-weaker (is_its_own view) (λ sent. is_its_own view sent || is_on_new read_event sent)
-      (λ sent is. either_first (is_its_own view sent) (is_on_new read_event sent) is) s.out own.out;
+      (λ sent is. or_left (is_its_own view sent) (is_on_new read_event sent) is) s.out own.out;
 }
 
 client_left : (view : View) (client_event : ClientEvent) → AreEnds view.ends view.routes
@@ -333,9 +333,9 @@ opened_out view link (Some name) = by (is_none (password_for view name))
         else with_sent (on_link link (opening_parts view name))
         (in_silence (with_end link (Some name) view))).out ≡ true
     by true = all-one new (end_of_link link reason.UnknownPeer)
-        (either_second (is_some (get view.ends link)) (nat_eq link link) (eq-eqb link link refl))
+        (or_right (is_some (get view.ends link)) (nat_eq link link) (eq-eqb link link refl))
     by false =
-        all-each new (λ parts. line_on link (text parts)) (λ parts. either_second
+        all-each new (λ parts. line_on link (text parts)) (λ parts. or_right
         (is_some (get view.ends link)) (nat_eq link link) (eq-eqb link link refl))
         (opening_parts view name)
 

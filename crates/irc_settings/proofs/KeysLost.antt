@@ -2,15 +2,12 @@
 use Rattle.std.proofs.Common.{◌≡◌, ℕ, zero, suc, Bool, true, false, ◌&&◌, Result, Ok, Err, IsErrAnd}
 use Rattle.std.proofs.Common.{List, [], ◌∷◌, drop, refl, sym, ap, ◌∙◌, subst}
 use Rattle.std.specs.List.{list_all}
+use Rattle.std.proofs.Math.Bool.{and-false}
 use Rattle.toml.specs.Data.{Members}
 use Rattle.irc_settings.specs.Keys.{SettingKey, is_in_form, is_kept, is_known_key, keys_in}
 use Rattle.irc_settings.specs.Loops.Finding.{FindsValue}
 use Rattle.irc_settings.specs.declared.fault.SettingsFault.{SettingsFault}
 use Rattle.irc_settings.specs.declared.fault.SettingsFault.TheVariants.{BadConfiguration, Memory}
-
-nothing_more : (test : Bool) → test && false ≡ false
-nothing_more true = refl
-nothing_more false = refl
 
 lost_behind : (place : ℕ) (keys rest : List SettingKey) (table : Members) → drop place keys ≡ rest
     → list_all (is_kept table) rest ≡ false → list_all (is_kept table) keys ≡ false
@@ -20,12 +17,12 @@ lost_behind (suc place) [] rest table is lost =
     subst (λ ks. list_all (is_kept table) ks ≡ false) (sym is) lost
 lost_behind (suc place) (key ∷ keys) rest table is lost =
     ap (λ b. is_kept table key && b) (lost_behind place keys rest table is lost)
-    ∙ nothing_more (is_kept table key)
+    ∙ and-false (is_kept table key)
 
 in_no_form : (keys : List SettingKey) (table : Members) → list_all (is_kept table) keys ≡ false
     → is_in_form keys table ≡ false
 in_no_form keys table lost = ap (λ b. list_all (is_known_key keys) (keys_in table) && b) lost
-    ∙ nothing_more (list_all (is_known_key keys) (keys_in table))
+    ∙ and-false (list_all (is_known_key keys) (keys_in table))
 
 -- the key at a place
 pub key_lost : (place : ℕ) (keys : List SettingKey) (key : SettingKey) (behind : List SettingKey)

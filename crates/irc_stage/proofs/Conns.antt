@@ -11,6 +11,7 @@ use Rattle.std.specs.FinMap.{empty, get, get-empty, entries, entries_sorted, fin
 use Rattle.std.specs.FinMap.{values, get-entries, slice_cmp-IsAntisymmetric}
 use Rattle.std.specs.FinMap.{nat_cmp-IsAntisymmetric}
 use Rattle.std.specs.FinMap.Entries.{below_all, same_entries}
+use Rattle.std.proofs.Math.Facts.{yes_and}
 use Rattle.irc_batch.specs.Batches.{is_number}
 use Rattle.irc_names.specs.Fold.{key, same}
 use Rattle.irc_names.specs.Tables.{Table, fold_cmp, row}
@@ -50,10 +51,6 @@ each_entry {V} P (e ∷ es) rise holds =
         ap (λ f. find fold_cmp f es) (one_fold q e.0 one) in cc
     later q v below is false two = ap (λ b. cond b (Some e.1) (find fold_cmp q es)) two ∙ is
 
-both_from : (a b : Bool) → T a → T b → T (a && b)
-both_from true b one two = two
-both_from false b one two = absurd one
-
 -- an entry more, if there is a connection for it
 abbrev with_it : List ℕ → Option ℕ → List (List ℕ × ℕ) → List (List ℕ × ℕ)
 with_it q None rest = rest
@@ -74,7 +71,7 @@ module _ {X : Type 0} (want : List ℕ → Option ℕ) where
       by_want : (o : Option ℕ) → T (is_lt (fold_cmp q e.0)) → T (below_all fold_cmp q (wanted es))
           → T (below_all fold_cmp q (with_it e.0 o (wanted es)))
       by_want None first rest = rest
-      by_want (Some conn) first rest = both_from _ _ first rest
+      by_want (Some conn) first rest = yes_and _ _ first rest
 
   sorted_wanted : (es : List (List ℕ × X)) → T (is_sorted fold_cmp es)
       → T (is_sorted fold_cmp (wanted es))
@@ -85,7 +82,7 @@ module _ {X : Type 0} (want : List ℕ → Option ℕ) where
       by_want : (o : Option ℕ) → T (below_all fold_cmp e.0 (wanted es))
           → T (is_sorted fold_cmp (wanted es)) → T (is_sorted fold_cmp (with_it e.0 o (wanted es)))
       by_want None first rest = rest
-      by_want (Some conn) first rest = both_from _ _ first rest
+      by_want (Some conn) first rest = yes_and _ _ first rest
 
   find_wanted : (q : List ℕ) (es : List (List ℕ × X)) → T (is_sorted fold_cmp es)
       → find fold_cmp q (wanted es) ≡ option_and_then (λ (x : X). want q) (find fold_cmp q es)

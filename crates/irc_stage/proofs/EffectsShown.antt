@@ -5,6 +5,8 @@ use Rattle.std.proofs.Common.{None}
 use Rattle.std.proofs.Common.{List, [], ◌∷◌, ◌++◌, refl, sym, ◌∙◌, ap, subst, filter}
 use Rattle.std.specs.FinMap.{find, get-entries}
 use Rattle.std.specs.List.{flat_map, list_all}
+use Rattle.std.proofs.lemmas.Option.{none-some}
+use Rattle.std.specs.Cmp.{first_so, second_so}
 use Rattle.arrayvec.specs.ArrayVec.{ArrayVec}
 use Rattle.irc_names.specs.Fold.{key}
 use Rattle.irc_names.specs.Tables.{Table, fold_cmp, row}
@@ -41,7 +43,7 @@ use Rattle.irc_stage.specs.Loops.Parts.{IsReady, IsSound}
 use Rattle.irc_stage.proofs.Conns.{but_one, nick_is}
 use Rattle.irc_stage.proofs.Followed.{so_in}
 use Rattle.irc_stage.proofs.HeardLines.{heard_out, sent}
-use Rattle.irc_stage.proofs.Hearing.{channel_heard, one_heard, other_there, told_outs}
+use Rattle.irc_stage.proofs.Hearing.{channel_heard, one_heard, told_outs}
 use Rattle.irc_stage.proofs.PassedOver.{is_its_conn}
 
 -- ---- what is said
@@ -80,8 +82,8 @@ module _ (machine : RoomMachine) (by_nick : Table ℕ) (index : IsIndex machine.
       let said_so : effect ≡ Say by notice (User nick) words =
       is ∙ ap (λ target. Say by notice target words) for in
       one_heard machine.room well by_nick nick
-      (other_there _ _ (sym (ap (λ e. list_all (has_user machine.room) (needs_users e)) said_so)
-      ∙ possible.users_there))
+      (first_so _ true (second_so _ _ (sym (ap (λ e. list_all (has_user machine.room)
+                  (needs_users e)) said_so) ∙ possible.users_there)))
       ∙ ap (hearers machine.room by_nick) (sym said_so))
 
   pub told_alone : (nick : List ℕ) → IsSaidTo nick effect → (q : List ℕ)
@@ -98,7 +100,7 @@ module _ (machine : RoomMachine) (by_nick : Table ℕ) (index : IsIndex machine.
       → row by_nick q ≡ Some conn → ⊥
   unheard channel said lists so none q conn sees at =
       said_is (λ target. target ≡ Channel channel) effect said (λ by notice target words is for.
-      none_some conn
+      none-some conn
       (sym (nothing_at (row lists (key channel)) q none)
       ∙ so.at (key channel) q
       ∙ ap (λ b. if b then row by_nick q else None)
@@ -107,9 +109,6 @@ module _ (machine : RoomMachine) (by_nick : Table ℕ) (index : IsIndex machine.
       (is ∙ ap (λ target. Say by notice target words) for)) ∙ sees))
       ∙ at))
     where
-      none_some : (conn : ℕ) → None ≡ Some conn → ⊥
-      none_some conn is = cc is
-
       second : (a b : Bool) → (not a && b) ≡ true → b ≡ true
       second true b is = cc is
       second false b is = is

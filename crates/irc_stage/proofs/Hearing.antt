@@ -8,6 +8,7 @@ use Rattle.std.proofs.lemmas.Bool.Decides.{nat_tests}
 use Rattle.std.specs.List.{list_any}
 use Rattle.std.specs.Option.{option_map_or}
 use Rattle.std.specs.FinMap.{find, is_sorted, values}
+use Rattle.std.proofs.Math.Bool.{or-false, or_assoc}
 use Rattle.irc_names.specs.Fold.{key}
 use Rattle.irc_names.specs.Tables.{Table, fold_cmp, row}
 use Rattle.irc_names.specs.TableLaws.{same_fold, same_fold-refl}
@@ -121,16 +122,6 @@ pub no_rows : {V : Type 0} (rows : List (Row V)) (b : Bool) → b ≡ (length ro
 no_rows [] b is none = refl
 no_rows (row ∷ rows) b is none = let some = not_none row rows in cc
 
--- ---- who an effect needs is there
-
-pub doer_there : (b : Bool) → (b && true) ≡ true → b ≡ true
-doer_there true is = refl
-doer_there false is = is
-
-pub other_there : (b c : Bool) → (b && (c && true)) ≡ true → c ≡ true
-other_there true c is = doer_there c is
-other_there false c is = cc is
-
 -- ---- of whom a test holds is a user
 
 module _ (room : Room) (well : IsWellFormed room) where
@@ -224,22 +215,14 @@ module _ (room : Room) (well : IsWellFormed room) where
     beside_one nick c is =
         in_list room by_nick (is_beside room nick) well (users_beside nick) (row lists c) (λ q.
         so.at c q ∙ ap (λ b. if b then row by_nick q else None)
-        (or_none (is_in room q c) ∙ ap (list_any (is_in room q)) (sym is)))
-      where
-        or_none : (b : Bool) → b ≡ (b || false)
-        or_none true = refl
-        or_none false = refl
-
+        (sym (or-false (is_in room q c)) ∙ ap (list_any (is_in room q)) (sym is)))
     found_beside : (q : List ℕ) (cs : List (List ℕ)) (found : List Entry) (t : Bool)
         → T (is_sorted fold_cmp found)
         → find fold_cmp q found ≡ (if t then row by_nick q else None)
         → find fold_cmp q (with_lists lists cs found)
         ≡ (if t || list_any (is_in room q) cs then row by_nick q else None)
-    found_beside q [] found t rise is = is ∙ ap (λ b. if b then row by_nick q else None) (or_none t)
-      where
-        or_none : (b : Bool) → b ≡ (b || false)
-        or_none true = refl
-        or_none false = refl
+    found_beside q [] found t rise is =
+        is ∙ ap (λ b. if b then row by_nick q else None) (sym (or-false t))
     found_beside q (c ∷ cs) found t rise is =
         found_beside q cs (merged (conns_in (row lists c)) found) (t || is_in room q c)
         (sorted_with lists c found rise)
@@ -248,7 +231,7 @@ module _ (room : Room) (well : IsWellFormed room) where
         ∙ ap (either (if is_in room q c then row by_nick q else None)) is
         ∙ by_tests (is_in room q c) t (row by_nick q))
         ∙ ap (λ b. if b then row by_nick q else None)
-        (or_both t (is_in room q c) (list_any (is_in room q) cs))
+        (or_assoc t (is_in room q c) (list_any (is_in room q) cs))
       where
         by_tests : (m t : Bool) (o : Option ℕ) → either (if m then o else None)
             (if t then o else None) ≡ (if t || m then o else None)
@@ -258,10 +241,6 @@ module _ (room : Room) (well : IsWellFormed room) where
         by_tests true false (Some conn) = refl
         by_tests false true o = refl
         by_tests false false o = refl
-
-        or_both : (a b c : Bool) → ((a || b) || c) ≡ (a || (b || c))
-        or_both true b c = refl
-        or_both false b c = refl
 
     pub beside_all : (nick : List ℕ) → map (λ (e : Entry). e.1)
         (with_lists lists (names_of room nick) []) ≡ conns_who room by_nick (is_beside room nick)
@@ -279,13 +258,8 @@ module _ (room : Room) (well : IsWellFormed room) where
         one_heard by_nick nick there
         ∙ conns_alike room by_nick (is_nick_of nick)
         (λ q. is_nick_of nick q || is_beside room nick q)
-        (λ q. or_none (is_nick_of nick q)
+        (λ q. sym (or-false (is_nick_of nick q))
         ∙ ap (λ cs. is_nick_of nick q || list_any (is_in room q) cs) (sym none))
-      where
-        or_none : (b : Bool) → b ≡ (b || false)
-        or_none true = refl
-        or_none false = refl
-
     own_beside : (c : List ℕ) (cs : List (List ℕ)) → names_of room nick ≡ c ∷ cs
         → is_beside room nick (key nick) ≡ true
     own_beside c cs is =

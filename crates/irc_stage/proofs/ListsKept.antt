@@ -8,6 +8,8 @@ use Rattle.std.specs.FinMap.{empty, entries, entries_sorted, find, is_sorted, ke
 use Rattle.std.specs.FinMap.{get-entries}
 use Rattle.std.specs.FinMap.Entries.{below_all}
 use Rattle.std.specs.Cmp.Lexicographic.{nat_list_cmp_total}
+use Rattle.std.proofs.lemmas.Option.{same_Some}
+use Rattle.irc_names.specs.Lemmas.PlainFacts.{is_true}
 use Rattle.irc_names.specs.Fold.{key}
 use Rattle.irc_names.specs.Tables.{Table, fold_cmp, row, put, alter, moved}
 use Rattle.irc_names.specs.TableLaws.{same_fold, same_fold-refl, one_fold, row-alter, row-moved}
@@ -54,13 +56,10 @@ used_alter channel change lists here used c conns is =
     by_test true at = here conns at
     by_test false at = used c conns at
 
-some_is : {X : Type 0} (x y : X) → Some x ≡ Some y → x ≡ y
-some_is x y e = cc e
-
 put_used : (nick : List ℕ) (conn : ℕ) (old conns : Conns)
     → Some (alter nick (λ _. Some conn) old) ≡ Some conns → is_nil (keys conns) ≡ false
 put_used nick conn old conns is =
-    subst (λ (t : Conns). is_nil (keys t) ≡ false) (some_is _ conns is)
+    subst (λ (t : Conns). is_nil (keys t) ≡ false) (same_Some _ conns is)
     (some_key (alter nick (λ _. Some conn) old) nick
     (ap is_some (row-alter nick (λ _. Some conn) old nick
     ∙ ap (λ b. cond b (Some conn) (row old nick)) (same_fold-refl nick))))
@@ -72,7 +71,7 @@ left_used table conns = by_test (is_nil (keys table)) refl
         → is_nil (keys conns) ≡ false
     by_test true nil is = cc is
     by_test false some is =
-        subst (λ (t : Conns). is_nil (keys t) ≡ false) (some_is table conns is) some
+        subst (λ (t : Conns). is_nil (keys t) ≡ false) (same_Some table conns is) some
 
 -- a list of which nothing is left answers as none
 left_answers : (table : Conns) (n : List ℕ) → conn_in (while_used table) n ≡ row table n
@@ -222,15 +221,11 @@ one_more names name nick value old mid new first second = record {
 
 -- ---- who is a member of what
 
-true_is : (b : Bool) → T b → b ≡ true
-true_is true h = refl
-true_is false h = absurd h
-
 -- in order, no other entry has the fold of the first
 pub none_behind : {X : Type 0} (q : List ℕ) (es : List (List ℕ × X)) → T (below_all fold_cmp q es)
     → find fold_cmp q es ≡ None
 none_behind q es below =
-    find-above nat_list_cmp_total q es (sym (above-is nat_list_cmp_total q es) ∙ true_is _ below)
+    find-above nat_list_cmp_total q es (sym (above-is nat_list_cmp_total q es) ∙ is_true _ below)
 
 -- a name is among those of some entries just where one is found that passes
 named_found : {X : Type 0} (test : X → Bool) (es : List (List ℕ × X)) → T (is_sorted fold_cmp es)

@@ -1,6 +1,6 @@
 -- Lists in folded order that are put together: they are in order still, and who is in one of them
 -- is found.
-use Rattle.std.proofs.Common.{◌≡◌, ℕ, Bool, true, false, cond, ◌&&◌, T, Option, Some, None}
+use Rattle.std.proofs.Common.{◌≡◌, ℕ, Bool, true, false, cond, T, Option, Some, None}
 use Rattle.std.proofs.Common.{List, [], ◌∷◌, ◌++◌, refl, sym, ◌∙◌, ap, map, subst}
 use Rattle.std.specs.declared.cmp.Ordering.{Ordering}
 use Rattle.std.specs.declared.cmp.Ordering.TheVariants.{Less, Equal, Greater}
@@ -17,16 +17,9 @@ use Rattle.irc_stage.specs.Loops.Merging.{merged, with_lists}
 use Rattle.irc_stage.specs.Loops.Listening.{Conns, Lists, conn_in, conns_in, kept_at}
 use Rattle.irc_tables.specs.declared.table.Row.{Row}
 use Rattle.std.specs.Borrow.{Bor}
+use Rattle.std.proofs.Math.Facts.{yes_and, and_yes}
 
 -- ---- the order of folds
-
-both_of : (a b : Bool) → T (a && b) → T a × T b
-both_of true b both = (tt, both)
-both_of false b both = absurd both
-
-both_from : (a b : Bool) → T a → T b → T (a && b)
-both_from true b one two = two
-both_from false b one two = absurd one
 
 less_is : (o : Ordering) → T (is_lt o) → o ≡ Less
 less_is Less is = refl
@@ -47,8 +40,8 @@ below_too : (p q : List ℕ) (es : List Entry) → fold_cmp p q ≡ Less → T (
     → T (below_all fold_cmp p es)
 below_too p q [] less low = tt
 below_too p q (e ∷ es) less low =
-    let parts = both_of _ _ low in
-    both_from _ _
+    let parts = and_yes _ _ low in
+    yes_and _ _
     (is_less (fold_cmp p e.0) (nat_list_cmp_total.trans p q e.0 less (less_is _ parts.0)))
     (below_too p q es less parts.1)
 
@@ -66,15 +59,15 @@ module _ (e : Entry) (go : List Entry → List Entry) where
   below_put : (p : List ℕ) → T (is_lt (fold_cmp p e.0)) → ((found : List Entry) → T
       (below_all fold_cmp p found) → T (below_all fold_cmp p (go found))) → (found : List Entry)
       → T (below_all fold_cmp p found) → T (below_all fold_cmp p (put_in e go found))
-  below_put p less kept [] low = both_from _ _ less (kept [] tt)
+  below_put p less kept [] low = yes_and _ _ less (kept [] tt)
   below_put p less kept (f ∷ fs) low =
-      by_order (fold_cmp f.0 e.0) (both_of _ _ low).0 (below_put p less kept fs (both_of _ _ low).1)
+      by_order (fold_cmp f.0 e.0) (and_yes _ _ low).0 (below_put p less kept fs (and_yes _ _ low).1)
     where
       by_order : (o : Ordering) → T (is_lt (fold_cmp p f.0)) → T
           (below_all fold_cmp p (put_in e go fs)) → T (below_all fold_cmp p (put_by o e go f fs))
-      by_order Less first rest = both_from _ _ first rest
-      by_order Equal first rest = both_from _ _ less (kept fs (both_of _ _ low).1)
-      by_order Greater first rest = both_from _ _ less (kept (f ∷ fs) low)
+      by_order Less first rest = yes_and _ _ first rest
+      by_order Equal first rest = yes_and _ _ less (kept fs (and_yes _ _ low).1)
+      by_order Greater first rest = yes_and _ _ less (kept (f ∷ fs) low)
 
   module _ (es : List Entry) (high : T (below_all fold_cmp e.0 es))
       (keeps : (p : List ℕ) → T (below_all fold_cmp p es) → (found : List Entry)
@@ -84,28 +77,28 @@ module _ (e : Entry) (go : List Entry → List Entry) where
     where
       sorted_put : (found : List Entry) → T (is_sorted fold_cmp found)
           → T (is_sorted fold_cmp (put_in e go found))
-      sorted_put [] rise = both_from _ _ (keeps e.0 high [] tt) (rises [] tt)
+      sorted_put [] rise = yes_and _ _ (keeps e.0 high [] tt) (rises [] tt)
       sorted_put (f ∷ fs) rise =
-          by_order (fold_cmp f.0 e.0) refl (sorted_put fs (both_of _ _ rise).1)
+          by_order (fold_cmp f.0 e.0) refl (sorted_put fs (and_yes _ _ rise).1)
         where
           by_order : (o : Ordering) → fold_cmp f.0 e.0 ≡ o → T (is_sorted fold_cmp (put_in e go fs))
               → T (is_sorted fold_cmp (put_by o e go f fs))
           by_order Less is rest =
-              both_from _ _
+              yes_and _ _
               (below_put f.0 (is_less _ is) (keeps f.0 (below_too f.0 e.0 es is high)) fs
-              (both_of _ _ rise).0)
+              (and_yes _ _ rise).0)
               rest
           by_order Equal is rest =
-              both_from _ _
+              yes_and _ _
               (keeps e.0 high fs
               (subst (λ q. T (below_all fold_cmp q fs)) (one_after f.0 e.0 is)
-              (both_of _ _ rise).0))
-              (rises fs (both_of _ _ rise).1)
+              (and_yes _ _ rise).0))
+              (rises fs (and_yes _ _ rise).1)
           by_order Greater is rest =
               let less = turned f.0 e.0 is in
-              both_from _ _
+              yes_and _ _
               (keeps e.0 high (f ∷ fs)
-              (both_from _ _ (is_less _ less) (below_too e.0 f.0 fs less (both_of _ _ rise).0)))
+              (yes_and _ _ (is_less _ less) (below_too e.0 f.0 fs less (and_yes _ _ rise).0)))
               (rises (f ∷ fs) rise)
 
 -- ---- what stands under a fold
@@ -135,7 +128,7 @@ module _ (q : List ℕ) where
       by_test true = refl
       by_test false = refl
   found_put e go es high gives (f ∷ fs) rise =
-      by_order (fold_cmp f.0 e.0) refl (found_put e go es high gives fs (both_of _ _ rise).1)
+      by_order (fold_cmp f.0 e.0) refl (found_put e go es high gives fs (and_yes _ _ rise).1)
     where
       by_first : (b : Bool) → same_fold q f.0 ≡ b → fold_cmp f.0 e.0 ≡ Less
           → cond b (Some f.1) (either (at_q (e ∷ es)) (at_q fs))
@@ -143,7 +136,7 @@ module _ (q : List ℕ) where
       by_first true one less =
           sym (ap (λ o. either o (Some f.1))
           (none_at f.0 (e ∷ es)
-          (both_from _ _ (is_less _ less) (below_too f.0 e.0 es less high)) one))
+          (yes_and _ _ (is_less _ less) (below_too f.0 e.0 es less high)) one))
       by_first false two less = refl
 
       by_own : (b : Bool) (more : List Entry) → at_q (go more) ≡ either (at_q es) (at_q more)
@@ -159,7 +152,7 @@ module _ (q : List ℕ) where
           ap (cond (same_fold q f.0) (Some f.1)) rest ∙ by_first (same_fold q f.0) refl is
       by_order Equal is rest =
           by_own (same_fold q e.0) fs
-          (gives fs (both_of (below_all fold_cmp f.0 fs) (is_sorted fold_cmp fs) rise).1)
+          (gives fs (and_yes (below_all fold_cmp f.0 fs) (is_sorted fold_cmp fs) rise).1)
           (λ two. sym (ap (λ t. cond t (Some f.1) (at_q fs))
           (ap (same_fold q) (one_after f.0 e.0 is) ∙ two)))
       by_order Greater is rest =
@@ -172,22 +165,22 @@ pub below_merged : (es : List Entry) (p : List ℕ) → T (below_all fold_cmp p 
     → T (below_all fold_cmp p (merged es found))
 below_merged [] p low found too = too
 below_merged (e ∷ es) p low found too =
-    below_put e (merged es) p (both_of _ _ low).0 (below_merged es p (both_of _ _ low).1) found too
+    below_put e (merged es) p (and_yes _ _ low).0 (below_merged es p (and_yes _ _ low).1) found too
 
 pub sorted_merged : (es : List Entry) → T (is_sorted fold_cmp es) → (found : List Entry)
     → T (is_sorted fold_cmp found) → T (is_sorted fold_cmp (merged es found))
 sorted_merged [] rise found too = too
 sorted_merged (e ∷ es) rise found too =
-    sorted_put e (merged es) es (both_of _ _ rise).0 (below_merged es)
-    (sorted_merged es (both_of _ _ rise).1) found too
+    sorted_put e (merged es) es (and_yes _ _ rise).0 (below_merged es)
+    (sorted_merged es (and_yes _ _ rise).1) found too
 
 pub found_merged : (q : List ℕ) (es : List Entry) → T (is_sorted fold_cmp es) → (found : List Entry)
     → T (is_sorted fold_cmp found)
     → find fold_cmp q (merged es found) ≡ either (find fold_cmp q es) (find fold_cmp q found)
 found_merged q [] rise found too = refl
 found_merged q (e ∷ es) rise found too =
-    found_put q e (merged es) es (both_of _ _ rise).0
-    (found_merged q es (both_of _ _ rise).1) found too
+    found_put q e (merged es) es (and_yes _ _ rise).0
+    (found_merged q es (and_yes _ _ rise).1) found too
 
 -- of several lists
 

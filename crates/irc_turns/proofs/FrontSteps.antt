@@ -1,12 +1,14 @@
 -- The front of bytes that is so many lines, piece by piece.
-use Rattle.std.proofs.Common.{◌≡◌, ℕ, ◌+◌, ◌-◌, ◌<◌, ◌≤◌, Bool, true, false, ◌||◌, max, nat_lt}
+use Rattle.std.proofs.Common.{◌≡◌, ℕ, ◌+◌, ◌-◌, ◌<◌, ◌≤◌, true, false, ◌||◌, max, nat_lt}
 use Rattle.std.proofs.Common.{Option, Some, None, List, [], ◌++◌, length, take, drop, get_or, refl}
-use Rattle.std.proofs.Common.{sym, ◌∙◌, ap, subst, arith, length-append, length-drop}
+use Rattle.std.proofs.Common.{sym, ◌∙◌, ap, subst, arith, length-append, length-drop, add-sub_of_le}
 use Rattle.std.specs.List.{prefix_len}
 use Rattle.std.proofs.lemmas.List.{get_or-drop}
 use Rattle.std.proofs.lemmas.List.Sums.{prefix_len_passes, prefix_len_stops}
 use Rattle.std.proofs.Math.Seq.{take-add}
 use Rattle.std.proofs.lemmas.Bool.{lt-ltb, le-ltb, ltb-true, ltb-false}
+use Rattle.std.proofs.Math.Bool.{or-true}
+use Rattle.std.proofs.Math.Nat.{sub-lt_left_of_lt-add}
 use Rattle.arrayvec.specs.ArrayVec.{ArrayVec}
 use Rattle.irc_line.specs.Bytes.{is_line_end, cut}
 use Rattle.irc_line.specs.Framed.{found_in}
@@ -53,20 +55,13 @@ before_further old bytes piece used more wanted rest before few none taken place
       | false ↦ λ (e : nat_lt place used ≡ false).
           let past = ltb-false place used e in
           let same : lines_in bytes place ≡ lines_in bytes used =
-          ap (λ n. length (lines (take n bytes))) (split place used past)
+          ap (λ n. length (lines (take n bytes))) (sym (add-sub_of_le past))
           ∙ ap (λ stream. length (lines stream)) (take-add used (place - used) bytes
           ∙ ap (λ p. take used bytes ++ take (place - used) p) (sym rest))
           ∙ ap length
-          (none (place - used) (inside place used more past below) (take used bytes) taken) in
+          (none (place - used) (sub-lt_left_of_lt-add past below) (take used bytes) taken) in
           subst (λ n. n < wanted) (sym same) few
     ] refl
-  where
-    split : (place used : ℕ) → used ≤ place → place ≡ used + (place - used)
-    split place used past = omega arith
-
-    inside : (place used more : ℕ) → used ≤ place → place < used + more → place - used < more
-    inside place used more past below = omega arith
-
 -- ---- all of it
 
 nothing_taken : HasTaken nothing_begun []
@@ -89,25 +84,14 @@ no_fewer_in law bytes ended ends =
     subst (λ stream. lines_in bytes ended ≤ length (lines stream)) (sym (take-add ended ends bytes))
     (no_fewer law (take ended bytes) (take ends (drop ended bytes)))
 
-or_true : (b : Bool) → (b || true) ≡ true
-or_true true = refl
-or_true false = refl
-
 -- a byte before the first that ends no line, and that one
 end_there : (bytes : List ℕ) (ended ends : ℕ) → ends ≡ prefix_len is_line_end (drop ended bytes)
     → (place : ℕ) → ended ≤ place → place < ended + ends → is_line_end (get_or bytes place 0) ≡ true
 end_there bytes ended ends ends_are place past below =
-    ap (λ n. is_line_end (get_or bytes n 0)) (split place ended past)
+    ap (λ n. is_line_end (get_or bytes n 0)) (sym (add-sub_of_le past))
     ∙ ap is_line_end (sym (get_or-drop ended bytes (place - ended) 0))
     ∙ prefix_len_passes is_line_end (drop ended bytes) (place - ended) 0
-    (subst (λ n. place - ended < n) ends_are (inside place ended ends past below))
-  where
-    split : (place ended : ℕ) → ended ≤ place → place ≡ ended + (place - ended)
-    split place ended past = omega arith
-
-    inside : (place ended ends : ℕ) → ended ≤ place → place < ended + ends → place - ended < ends
-    inside place ended ends past below = omega arith
-
+    (subst (λ n. place - ended < n) ends_are (sub-lt_left_of_lt-add past below))
 no_end_there : (bytes : List ℕ) (ended ends : ℕ) → ends ≡ prefix_len is_line_end (drop ended bytes)
     → ends < length (drop ended bytes) → is_line_end (get_or bytes (ended + ends) 0) ≡ false
 no_end_there bytes ended ends ends_are within =
@@ -134,7 +118,7 @@ front_is law wanted bytes piece ended ends stops rest ends_are within =
             | false ↦ λ (e : nat_lt place ended ≡ false).
                 ap (λ b. nat_lt (lines_in bytes place) (max wanted 1) || b)
                 (end_there bytes ended ends ends_so place (ltb-false place ended e) below)
-                ∙ or_true (nat_lt (lines_in bytes place) (max wanted 1))
+                ∙ or-true (nat_lt (lines_in bytes place) (max wanted 1))
           ] refl;
       behind = λ further.
           ap (λ b. b || is_line_end (get_or bytes (ended + ends) 0))

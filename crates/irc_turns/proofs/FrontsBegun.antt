@@ -1,9 +1,10 @@
 -- Of the front that a turn takes no more lines begin than are to be in it.
 use Rattle.std.proofs.Common.{◌≡◌, ℕ, zero, suc, ◌+◌, ◌<◌, ◌≤◌, Bool, true, false, not, ◌&&◌, ◌||◌}
 use Rattle.std.proofs.Common.{Some, None, List, [], ◌∷◌, ◌++◌, length, take, get_or, refl, sym}
-use Rattle.std.proofs.Common.{◌∙◌, ap, subst, arith, take-suc, cond, max}
-use Rattle.std.proofs.lemmas.Bool.{ltb-true}
+use Rattle.std.proofs.Common.{◌∙◌, ap, subst, arith, take-suc, cond, max, le_refl}
+use Rattle.std.proofs.lemmas.Bool.{ltb-true, true≢false, or_from, or_parts}
 use Rattle.std.specs.List.{slice_split, filter_map, onto_first, cons_option, list_any}
+use Rattle.std.proofs.Math.Nat.{le_of_suc-le}
 use Rattle.irc_line.specs.Bytes.{is_line_end, has_nul, is_nul, cut}
 use Rattle.irc_line.specs.Lines.{lines, line_of, earlier_pieces, is_empty}
 use Rattle.irc_turns.specs.Fronts.{IsFront, lines_in}
@@ -58,14 +59,11 @@ as_many (next ∷ pieces) = no_less (some_in (next ∷ pieces))
     no_less : (n : ℕ) → n ≤ 0 + n
     no_less n = omega arith
 
-same_sum : (n : ℕ) → n ≤ n
-same_sum n = omega arith
-
 one_first : (x : ℕ) (b : Bool) (byte : ℕ) (pieces : List (List ℕ))
     → 1 + some_in (split_by b byte pieces) ≤ some_in ((x ∷ []) ∷ split_by b byte pieces)
-one_first x true byte pieces = same_sum (1 + some_in ([] ∷ pieces))
+one_first x true byte pieces = le_refl (1 + some_in ([] ∷ pieces))
 one_first x false byte [] = omega arith
-one_first x false byte (piece ∷ pieces) = same_sum (1 + some_in ((byte ∷ piece) ∷ pieces))
+one_first x false byte (piece ∷ pieces) = le_refl (1 + some_in ((byte ∷ piece) ∷ pieces))
 
 one_before : (x : ℕ) (bytes : List ℕ) → 1 + some_in (slice_split is_line_end bytes)
     ≤ some_in ((x ∷ []) ∷ slice_split is_line_end bytes)
@@ -76,7 +74,7 @@ twice : (x byte : ℕ) (pieces : List (List ℕ))
     → some_in (onto_first byte pieces) ≤ some_in (onto_first x (onto_first byte pieces))
 twice x byte [] = omega arith
 twice x byte (piece ∷ []) = omega arith
-twice x byte (piece ∷ next ∷ pieces) = same_sum (1 + some_in (next ∷ pieces))
+twice x byte (piece ∷ next ∷ pieces) = le_refl (1 + some_in (next ∷ pieces))
 
 record AreEnded (bytes : List ℕ) : Type 0 where
   outside : is_open false bytes ≡ false
@@ -109,35 +107,18 @@ ended_one false byte bytes so = (
     through a b c first second = omega arith
 
 are_ended : (bytes : List ℕ) → AreEnded bytes
-are_ended [] = record { outside = λ none. omega arith; inside = λ x none. absurd (never none) }
-  where
-    never : true ≡ false → ⊥
-    never e = cc e
+are_ended [] = record { outside = λ none. omega arith; inside = λ x none. absurd (true≢false none) }
 are_ended (byte ∷ bytes) =
     let so = ended_one (is_line_end byte) byte bytes (are_ended bytes) in
     record { outside = so.0; inside = so.1 }
 
 -- ---- without a NUL each piece that is not empty is a line
 
-first_not : (a b : Bool) → (a || b) ≡ false → a ≡ false
-first_not false b e = refl
-first_not true b e = e
-
-second_not : (a b : Bool) → (a || b) ≡ false → b ≡ false
-second_not false b e = e
-second_not true b e = absurd (never e)
-  where
-    never : true ≡ false → ⊥
-    never e = cc e
-
-neither : (a b : Bool) → a ≡ false → b ≡ false → (a || b) ≡ false
-neither a b first second = ap (λ v. v || b) first ∙ second
-
 clean_first : (byte : ℕ) (pieces : List (List ℕ)) → is_nul byte ≡ false
     → list_any has_nul pieces ≡ false → list_any has_nul (onto_first byte pieces) ≡ false
-clean_first byte [] none clean = neither _ _ (neither _ _ none refl) refl
+clean_first byte [] none clean = or_from _ _ (or_from _ _ none refl) refl
 clean_first byte (piece ∷ pieces) none clean =
-    neither _ _ (neither _ _ none (first_not _ _ clean)) (second_not (has_nul piece) _ clean)
+    or_from _ _ (or_from _ _ none (or_parts _ _ clean).0) (or_parts (has_nul piece) _ clean).1
 
 clean_one : (b : Bool) (byte : ℕ) (pieces : List (List ℕ)) → is_nul byte ≡ false
     → list_any has_nul pieces ≡ false → list_any has_nul (split_by b byte pieces) ≡ false
@@ -148,8 +129,8 @@ clean_pieces : (bytes : List ℕ) → has_nul bytes ≡ false
     → list_any has_nul (slice_split is_line_end bytes) ≡ false
 clean_pieces [] clean = refl
 clean_pieces (byte ∷ bytes) clean =
-    clean_one (is_line_end byte) byte (slice_split is_line_end bytes) (first_not _ _ clean)
-    (clean_pieces bytes (second_not (is_nul byte) _ clean))
+    clean_one (is_line_end byte) byte (slice_split is_line_end bytes) (or_parts _ _ clean).0
+    (clean_pieces bytes (or_parts (is_nul byte) _ clean).1)
 
 one_kept : (empty nul : Bool) (line : List ℕ) (found : List (List ℕ)) (more : ℕ) → nul ≡ false
     → more ≤ length found
@@ -158,10 +139,7 @@ one_kept true nul line found more none few = none_more more (length found) few
   where
     none_more : (more n : ℕ) → more ≤ n → 0 + more ≤ n
     none_more more n few = omega arith
-one_kept false true line found more none few = absurd (never none)
-  where
-    never : true ≡ false → ⊥
-    never e = cc e
+one_kept false true line found more none few = absurd (true≢false none)
 one_kept false false line found more none few = grown more (length found) few
   where
     grown : (more n : ℕ) → more ≤ n → 1 + more ≤ suc n
@@ -172,8 +150,8 @@ enough_lines : (pieces : List (List ℕ)) → list_any has_nul pieces ≡ false
 enough_lines [] clean = omega arith
 enough_lines (piece ∷ []) clean = omega arith
 enough_lines (piece ∷ next ∷ pieces) clean =
-    one_kept (is_empty piece) (has_nul piece) (cut piece) _ _ (first_not _ _ clean)
-    (enough_lines (next ∷ pieces) (second_not (has_nul piece) _ clean))
+    one_kept (is_empty piece) (has_nul piece) (cut piece) _ _ (or_parts _ _ clean).0
+    (enough_lines (next ∷ pieces) (or_parts (has_nul piece) _ clean).1)
 
 all_ended : (is_begun : Bool) (bytes : List ℕ) → has_nul bytes ≡ false
     → is_open is_begun bytes ≡ false → begun_in is_begun bytes ≤ length (lines bytes)
@@ -192,7 +170,7 @@ clean_front : (k : ℕ) (bytes : List ℕ) → has_nul bytes ≡ false → has_n
 clean_front zero bytes clean = refl
 clean_front (suc k) [] clean = refl
 clean_front (suc k) (byte ∷ bytes) clean =
-    neither _ _ (first_not _ _ clean) (clean_front k bytes (second_not (is_nul byte) _ clean))
+    or_from _ _ (or_parts _ _ clean).0 (clean_front k bytes (or_parts (is_nul byte) _ clean).1)
 
 is_true : (a b : Bool) → (a || b) ≡ true → b ≡ false → a ≡ true
 is_true true b e none = refl
@@ -228,7 +206,7 @@ module _ (wanted : ℕ) (bytes : List ℕ) (count : ℕ) (is_begun : Bool)
       (sym (ap (begun_in is_begun) (take-suc bytes k 0 (there k count (length bytes) within
       front.within)) ∙ one_byte_more is_begun (take k bytes) (get_or bytes k 0)))
       (turn k (is_line_end (get_or bytes k 0)) (is_open is_begun (take k bytes))
-      (below k count within) refl refl (begun_at k (before k count within)))
+      (below k count within) refl refl (begun_at k (le_of_suc-le within)))
     where
       there : (k count size : ℕ) → suc k ≤ count → count ≤ size → k < size
       there k count size within inside = omega arith
@@ -236,9 +214,6 @@ module _ (wanted : ℕ) (bytes : List ℕ) (count : ℕ) (is_begun : Bool)
       below : (k count : ℕ) → suc k ≤ count → k < count
       below k count within = omega arith
 
-      before : (k count : ℕ) → suc k ≤ count → k ≤ count
-      before k count within = omega arith
-
 pub front_begins : FrontBegins
 front_begins wanted bytes count is_begun clean front =
-    begun_at wanted bytes count is_begun clean front count (same_sum count)
+    begun_at wanted bytes count is_begun clean front count (le_refl count)

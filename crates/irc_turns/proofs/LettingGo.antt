@@ -1,8 +1,8 @@
 -- Some are let go, one after another.
-use Rattle.std.proofs.Common.{◌≡◌, ◌≢◌, ℕ, ◌+◌, ◌-◌, ◌<◌, ◌==◌, Bool, true, false, not, ◌&&◌}
+use Rattle.std.proofs.Common.{◌≡◌, ◌≢◌, ℕ, ◌-◌, ◌<◌, ◌==◌, Bool, true, false, not, ◌&&◌}
 use Rattle.std.proofs.Common.{nat_eq, Option, Some, None, List, length, get_or, refl, sym, ◌∙◌, ap}
 use Rattle.std.proofs.Common.{subst, arith}
-use Rattle.std.proofs.lemmas.Bool.{eqb-true, eqb-false}
+use Rattle.std.proofs.lemmas.Bool.{eqb-true, eqb-false, not_from_true, not-false}
 use Rattle.std.proofs.lemmas.List.{get_or-take, get_or-set_other}
 use Rattle.std.proofs.lemmas.Option.{slice_get-get_or}
 use Rattle.std.specs.List.{slice_get, swap_remove}
@@ -105,16 +105,9 @@ not_both : (b : Bool) → (b && false) ≡ true → ⊥
 not_both true e = cc e
 not_both false e = cc e
 
-is_not : (b : Bool) → not b ≡ false → b ≡ true
-is_not true e = refl
-is_not false e = cc e
-
-not_it : (b : Bool) → b ≡ true → not b ≡ false
-not_it b e = ap not e
-
 both_kept : (may b c : Bool) → (b ≡ true → c ≡ true) → not (may && b) ≡ false
     → not (may && c) ≡ false
-both_kept true b c keeps e = not_it c (keeps (is_not b e))
+both_kept true b c keeps e = not_from_true c (keeps (not-false b e))
 both_kept false b c keeps e = cc e
 
 -- nothing that lets others go changes how much one may say
@@ -134,20 +127,21 @@ waits : (now place : ℕ) (gone held : Held) (why : Reason) (talkers : NumberedT
 waits now place gone held OthersFull talkers not_due =
     ap (λ full. is_read_beside nat_eq full held.who) (sym (same_full gone.reason talkers)) ∙ not_due
 waits now place gone held (Grown mark) talkers not_due =
-    not_it _ (before (is_grown_one talkers.marks mark) place gone talkers mark.number (λ s e. e)
+    not_from_true _
+        (before (is_grown_one talkers.marks mark) place gone talkers mark.number (λ s e. e)
     (λ s e. e)
     (ap (λ marks. is_grown_one marks mark (talker_at (let_go_one place gone talkers) mark.number))
-    (sym (same_marks gone.reason talkers)) ∙ is_not _ not_due))
+    (sym (same_marks gone.reason talkers)) ∙ not-false _ not_due))
 waits now place gone held (Filled mark) talkers not_due =
     both_kept (may_wait_at now held) _ _
     (before (is_filled_one mark) place gone talkers mark.number (λ s e. e)
     (λ s e. absurd (not_both _ e))) not_due
 waits now place gone held Paced talkers not_due =
-    not_it _ (before (is_paced_one talkers.pace now) place gone talkers held.who
+    not_from_true _ (before (is_paced_one talkers.pace now) place gone talkers held.who
     (λ s e. sym (let_go_says talkers.pace now s) ∙ e)
     (λ s e. sym (tried_says talkers.pace now s) ∙ e)
     (ap (λ pace. is_paced_one pace now (talker_at (let_go_one place gone talkers) held.who))
-    (sym (same_pace gone.reason talkers)) ∙ is_not _ not_due))
+    (sym (same_pace gone.reason talkers)) ∙ not-false _ not_due))
 
 -- whoever is not due then was not due before
 pub still_waits : (now place : ℕ) (gone held : Held) (old new : NumberedTalkers)
@@ -175,16 +169,3 @@ pub due_at : (now : ℕ) (talkers : NumberedTalkers) (xs : List Held) (place : �
     → is_due now talkers (get_or xs place d) ≡ is_due now talkers held
 due_at now talkers xs place held d within there =
     ap (due_of now talkers) (sym (slice_get-get_or xs place d within) ∙ there)
-
--- ---- place by place
-
-pub one_further : (P : ℕ → Type 0) (place : ℕ) → ((k : ℕ) → k < place → P k) → P place → (k : ℕ)
-    → k < place + 1 → P k
-one_further P place before here k below =
-    elim (k == place) as (λ b. (k == place) ≡ b → P k) [
-      | true ↦ λ (e : (k == place) ≡ true). subst P (sym (eqb-true k place e)) here
-      | false ↦ λ (e : (k == place) ≡ false). before k (lower k place below (eqb-false k place e))
-    ] refl
-  where
-    lower : (k place : ℕ) → k < place + 1 → k ≢ place → k < place
-    lower k place below apart = omega arith

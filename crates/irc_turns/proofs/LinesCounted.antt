@@ -1,6 +1,7 @@
 -- Each line is counted as it begins, and none ends that has not begun.
 use Rattle.std.proofs.Common.{◌≡◌, ℕ, ◌+◌, ◌-◌, ◌*◌, ◌≤◌, Bool, true, false, not, ◌&&◌, cond, List}
-use Rattle.std.proofs.Common.{[], ◌∷◌, length, refl, ◌∙◌, arith, suc, ◌||◌, Some, None}
+use Rattle.std.proofs.Common.{[], ◌∷◌, length, refl, ◌∙◌, arith, suc, ◌||◌, Some, None, le_refl}
+use Rattle.std.proofs.Common.{le_trans}
 use Rattle.std.specs.List.{slice_split, filter_map, onto_first, cons_option}
 use Rattle.irc_line.specs.Bytes.{is_line_end, has_nul, cut}
 use Rattle.irc_line.specs.Lines.{lines, line_of, earlier_pieces, is_empty}
@@ -60,13 +61,7 @@ one_in byte (piece ∷ next ∷ pieces) = one_more (some_in (next ∷ pieces))
 none_behind : (byte : ℕ) (pieces : List (List ℕ))
     → some_behind (onto_first byte pieces) ≤ some_behind pieces
 none_behind byte [] = omega arith
-none_behind byte (piece ∷ pieces) = as_many (some_in pieces)
-  where
-    as_many : (n : ℕ) → n ≤ n
-    as_many n = omega arith
-
-through : (a b c : ℕ) → a ≤ b → b ≤ c → a ≤ c
-through a b c first second = omega arith
+none_behind byte (piece ∷ pieces) = le_refl (some_in pieces)
 
 one_through : (a b c : ℕ) → a ≤ 1 + b → b ≤ c → a ≤ 1 + c
 one_through a b c first second = omega arith
@@ -89,12 +84,12 @@ one_more : (b : Bool) (byte : ℕ) (bytes : List ℕ) → AreBegun bytes
     × (some_behind (split_by b byte (slice_split is_line_end bytes))
     ≤ cond (not b && not true) 1 0 + begun_in (not b) bytes)
 one_more true byte bytes so = (
-  no_less _ _ (through _ _ _ (nothing_in (slice_split is_line_end bytes)) so.all),
+  no_less _ _ (le_trans (nothing_in (slice_split is_line_end bytes)) so.all),
   no_less _ _ so.all,
 )
 one_more false byte bytes so = (
   one_through _ _ _ (one_in byte (slice_split is_line_end bytes)) so.behind,
-  no_less _ _ (through _ _ _ (none_behind byte (slice_split is_line_end bytes)) so.behind),
+  no_less _ _ (le_trans (none_behind byte (slice_split is_line_end bytes)) so.behind),
 )
 
 are_begun : (bytes : List ℕ) → AreBegun bytes
@@ -128,7 +123,7 @@ few_lines (piece ∷ next ∷ pieces) =
 pub none_unbegun : NoneEndsUnbegun
 unfolding lines
 none_unbegun bytes =
-    through _ _ _ (few_lines (slice_split is_line_end bytes)) (are_begun bytes).all
+    le_trans (few_lines (slice_split is_line_end bytes)) (are_begun bytes).all
 
 -- ---- in pieces
 

@@ -1,6 +1,6 @@
 -- Who begins no more lines each time than it may keeps to the pace.
 use Rattle.std.proofs.Common.{◌≡◌, ℕ, ◌+◌, ◌-◌, ◌*◌, ◌/◌, ◌≤◌, min, max, List, [], ◌∷◌, Some, refl}
-use Rattle.std.proofs.Common.{sym, ◌∙◌, ap, subst, arith}
+use Rattle.std.proofs.Common.{sym, ◌∙◌, ap, subst, arith, le_trans, le_refl}
 use Rattle.irc_turns.specs.declared.allowance.Allowance.{Allowance}
 use Rattle.irc_turns.specs.declared.allowance.LinesPace.{LinesPace}
 use Rattle.irc_turns.specs.Allowances.{most_of, allowance_of, said, said_byte, counted, begun_in}
@@ -44,19 +44,16 @@ record IsKept (pace : LinesPace) (came begun : ℕ) (last : Allowance) : Type 0 
 kept : (pace : LinesPace) (came begun : ℕ) (last : Allowance)
     → HasSaid pace (allowance_of (Some pace) came) begun last → IsKept pace came begun last
 kept pace came begun last come = record {
-  since = at_once came;
+  since = le_refl came;
   sum = at_first (most_of pace) ((came - came) * max pace.per_second 1);
 }
-  where
-    at_once : (n : ℕ) → n ≤ n
-    at_once n = omega arith
 kept pace came all last (once_more begun _ now bytes before _ has says) =
     let so = kept pace came begun before has in
     let moment : last.counted_at ≡ now =
     ap (λ (a : Allowance). a.counted_at) says.left
     ∙ same_moment bytes (counted pace now before) in
     record {
-      since = subst (λ n. came ≤ n) (sym moment) (through _ _ _ so.since says.later);
+      since = subst (λ n. came ≤ n) (sym moment) (le_trans so.since says.later);
       sum = subst (λ n. all * 1000 + last.thousandths
           ≤ most_of pace + (n - came) * max pace.per_second 1) (sym moment)
           (one_more begun (begun_in before.is_begun bytes) all before.thousandths
@@ -71,10 +68,6 @@ kept pace came all last (once_more begun _ now bytes before _ has says) =
           (stretches came before.counted_at now (max pace.per_second 1) so.since says.later)
           says.all_are);
     }
-  where
-    through : (a b c : ℕ) → a ≤ b → b ≤ c → a ≤ c
-    through a b c first second = omega arith
-
 pub pace_kept : PaceIsKept
 pace_kept pace came begun last has = no_left _ _ _ (kept pace came begun last has).sum
   where

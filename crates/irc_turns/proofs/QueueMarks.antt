@@ -4,7 +4,7 @@ use Rattle.std.proofs.Common.{nat_eq, ◌||◌, cond, List, [], ◌∷◌, ◌++
 use Rattle.std.proofs.Common.{drop}
 use Rattle.std.proofs.Common.{replicate, count_by, length-append, zero-add, inl, inr, refl, sym}
 use Rattle.std.proofs.Common.{◌∙◌, ap, arith}
-use Rattle.std.proofs.lemmas.Bool.{cases_eq, eqb-true, eq-eqb}
+use Rattle.std.proofs.lemmas.Bool.{cases_eq, eqb-true, eq-eqb, or_parts}
 use Rattle.std.proofs.lemmas.List.{get_or-set_same, get_or-set_other, get_or_past, get_or-replicate}
 use Rattle.std.proofs.lemmas.List.{length-replicate, length-set, take_all, take-append-drop}
 use Rattle.std.proofs.lemmas.List.Sums.{sum_by-cons, sum_by-append, sum_by-set, count_by-le-length}
@@ -158,17 +158,13 @@ without_more : (n first : ℕ) (queue : List ℕ) (b : Bool) → (queue ≡ queu
 without_more n first queue true behind none is = cc (none, is)
 without_more n first queue false behind none is = ap (λ q. first ∷ q) behind
 
-behind_none : (b rest : Bool) → (b || rest) ≡ false → rest ≡ false
-behind_none true rest none = absurd (cc none)
-behind_none false rest none = none
-
 -- a number that does not stand in it
 pub without_none : (n : ℕ) (queue : List ℕ) → stands_in n queue ≡ false
     → queue ≡ queue_without n queue
 without_none n [] none = refl
 without_none n (first ∷ queue) none =
     without_more n first queue (first == n)
-    (without_none n queue (behind_none (first == n) (stands_in n queue) none)) none refl
+    (without_none n queue (or_parts (first == n) (stands_in n queue) none).1) none refl
 
 -- ---- all in another order, and with more room
 

@@ -1,5 +1,5 @@
 -- What users are found by.
-use Rattle.std.proofs.Common.{◌≡◌, ℕ, T, Bool, true, false, cond, List, [], ◌∷◌, length, refl, sym}
+use Rattle.std.proofs.Common.{◌≡◌, ℕ, Bool, true, false, cond, List, [], ◌∷◌, length, refl, sym}
 use Rattle.std.proofs.Common.{◌∙◌, ap, subst, Option, Some, None, is_some, map, option_map}
 use Rattle.std.proofs.Common.{slice_index_or}
 use Rattle.std.proofs.lemmas.Bool.{and_parts, and_from}
@@ -10,6 +10,7 @@ use Rattle.std.specs.Cmp.Lexicographic.{nat_list_cmp_total}
 use Rattle.std.specs.FinMap.{empty, entries, entries_sorted, find, get-empty, get-entries}
 use Rattle.std.specs.FinMap.{is_sorted, keys, values}
 use Rattle.std.specs.Global.{Box}
+use Rattle.irc_names.specs.Lemmas.PlainFacts.{is_true}
 use Rattle.slab.specs.Slab.{Slab, get}
 use Rattle.irc_names.specs.Fold.{key}
 use Rattle.irc_names.specs.Tables.{Table, fold_cmp, row, each}
@@ -85,10 +86,6 @@ all_sat seats (e ∷ es) sorted each =
         ∙ ap (λ k. find fold_cmp k es) (sym (one_fold q e.0 one)) ∙ is in cc)
     behind q h is false other = ap (λ b. cond b (Some e.1) (find fold_cmp q es)) other ∙ is
 
-is_so : (b : Bool) → T b → b ≡ true
-is_so true holds = refl
-is_so false holds = absurd holds
-
 is_full : (o : Option (Box User)) (h : Head)
     → option_map (head h.number) (option_map boxed o) ≡ Some h → is_some o ≡ true
 is_full None h e = cc
@@ -99,7 +96,7 @@ module _ (seats : Slab (Box User)) (heads : Table Head) (roster : IsRoster seats
   seat_full fold h there = is_full (get seats h.number) h (roster.seated fold h there)
 
   pub seats_full : list_all (is_sat seats) (values heads) ≡ true
-  seats_full = all_sat seats (entries heads) (is_so (is_sorted fold_cmp (entries heads))
+  seats_full = all_sat seats (entries heads) (is_true (is_sorted fold_cmp (entries heads))
       (entries_sorted heads)) (λ q h is. seat_full q h (get-entries heads q ∙ is))
 
   -- so there is in those that a walk over all heads begins with

@@ -5,6 +5,7 @@ use Rattle.std.proofs.lemmas.List.{length-map}
 use Rattle.std.specs.FinMap.{keys, values}
 use Rattle.std.specs.Option.{option_and_then, option_map_or}
 use Rattle.std.specs.Global.{Box}
+use Rattle.irc_names.specs.Lemmas.PlainFacts.{none_if_not_some}
 use Rattle.slab.specs.Slab.{Slab}
 use Rattle.irc_names.specs.Fold.{key}
 use Rattle.irc_names.specs.Tables.{Table, row, each}
@@ -122,10 +123,6 @@ module _ (seats : Slab (Box User)) (heads : Table Head) (roster : IsRoster seats
 
 -- ---- as the view of the code's fields has it
 
-absent : {X : Type 0} (o : Option X) → is_some o ≡ false → o ≡ None
-absent None none = refl
-absent (Some x) none = cc
-
 module _ (seats : Slab (Box User)) (heads : Table Head) (users : NumberedUsers)
     (view : numbered seats heads ≡ users) (roster : IsRoster seats heads) where
   pub held_by : (n : ℕ) (found : Option User) → sitting seats n ≡ found → HasNumber users n found
@@ -152,7 +149,7 @@ module _ (seats : Slab (Box User)) (heads : Table Head) (users : NumberedUsers)
   -- a nickname that no head is found under is free, and none is found under a free one
   pub free_of_heads : (fold : List ℕ) → is_some (row heads fold) ≡ false
       → row users.users fold ≡ None
-  free_of_heads fold none = absent (row users.users fold) (user_by_head fold ∙ none)
+  free_of_heads fold none = none_if_not_some (row users.users fold) (user_by_head fold ∙ none)
 
   pub no_head : (fold : List ℕ) → row users.users fold ≡ None → row heads fold ≡ None
-  no_head fold none = absent (row heads fold) (sym (user_by_head fold) ∙ ap is_some none)
+  no_head fold none = none_if_not_some (row heads fold) (sym (user_by_head fold) ∙ ap is_some none)

@@ -3,6 +3,7 @@ use Rattle.std.proofs.Common.{◌≡◌, ℕ, Bool, true, false, not, ◌&&◌, 
 use Rattle.std.proofs.Common.{ap, subst, Option, Some, None, is_some, is_none, option_map, Result}
 use Rattle.std.proofs.Common.{Ok, Err, OnErr}
 use Rattle.std.specs.Global.{Box}
+use Rattle.irc_names.specs.Lemmas.PlainFacts.{none_if_not_some}
 use Rattle.slab.specs.Slab.{Slab, get, Updates, with_value as seat_with}
 use Rattle.slab.proofs.SlabLemmas.{Updates-with_value, Updates-set, ContainsKey-within}
 use Rattle.irc_names.specs.Fold.{key, same}
@@ -61,10 +62,6 @@ moved_in_steps table rest after old new change x there taken_out put_in =
     put_in ∙ ap (alter new (λ _. Some (change x))) taken_out
     ∙ ap (λ o. put_row o new change (alter old (λ _. None) table)) (sym there)
 
-none_is : {X : Type 0} (o : Option X) → is_some o ≡ false → o ≡ None
-none_is None h = refl
-none_is (Some x) h = cc
-
 -- where there is no row, none is moved
 pub moved_not : {X : Type 0} (table : Table X) (old new : List ℕ) (change : X → X)
     → row table old ≡ None → table ≡ moved old new change table
@@ -90,7 +87,8 @@ free_then {X} table nick new free = by_name (same nick new) refl
     by_name false two =
         row-alter (key nick) (λ _. None) table (key new)
         ∙ either (same_fold (key new) (key nick)) (row table (key new))
-        (none_is (row table (key new)) (ap (λ b. not b && is_some (row table (key new))) (sym two)
+        (none_if_not_some (row table (key new))
+              (ap (λ b. not b && is_some (row table (key new))) (sym two)
         ∙ free))
 
 -- what holds anyway holds of an error
@@ -99,14 +97,6 @@ on_err (Ok a) fact = tt
 on_err (Err b) fact = fact
 
 -- ---- a row that is put under another name before the old one is taken out
-
-pub apart_so : (b : Bool) → not b ≡ true → b ≡ false
-apart_so false apart = refl
-apart_so true apart = cc
-
-pub one_so : (b : Bool) → not b ≡ false → b ≡ true
-one_so true one = refl
-one_so false one = cc
 
 module _ {X : Type 0} (table : Table X) (nick new : List ℕ) (x : X) where
   after_both : (q : List ℕ)

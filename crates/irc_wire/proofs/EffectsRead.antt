@@ -4,6 +4,8 @@ use Rattle.std.proofs.Common.{if◌then◌else◌, Option, Some, None, Ok, List,
 use Rattle.std.proofs.Common.{refl, ◌∙◌, ap, le-leb}
 use Rattle.std.specs.List.{list_all}
 use Rattle.std.specs.Option.{option_map_or, IfSome}
+use Rattle.std.proofs.Math.Bool.{or-true}
+use Rattle.std.proofs.lemmas.Bool.{and_from}
 use Rattle.arrayvec.specs.ArrayVec.{ArrayVec}
 use Rattle.irc_line.specs.Limits.{max_line}
 use Rattle.irc_line.specs.Messages.{message_of}
@@ -37,9 +39,6 @@ pub record IsExpected (reader : Reader) (nick : List ℕ) (effect : Effect) : Ty
   pub named : IsNick nick
   pub known : list_all (λ nick. is_some (reader.home nick)) (needs_users effect) ≡ true
   pub far : is_user_far reader nick ≡ true
-
-both : (a b : Bool) → a ≡ true → b ≡ true → (a && b) ≡ true
-both a b p q = cc
 
 all_right : (parameters direction names : Bool) (effects : List Effect) → parameters ≡ true
     → direction ≡ true → names ≡ true → first_fault (record {
@@ -78,7 +77,7 @@ user_read : (reader : Reader) (nick : List ℕ) (parameters names : Bool) (effec
 user_read reader nick parameters names effect is right names_right =
     all_right parameters (may_come reader nick) (is_nick nick && names)
     (if_there reader effect) right (far_may_come reader nick is.named is.far)
-    (both (is_nick nick) names is.named names_right)
+    (and_from (is_nick nick) names is.named names_right)
     ∙ ap Ok (there reader effect is.known)
 
 words_fit : (limit : ℕ) (text : List ℕ) → length text ≤ limit → fits limit text ≡ true
@@ -144,7 +143,7 @@ pub kick_read : (reader : Reader) (nick channel kicked text : List ℕ) → IsEx
 kick_read reader nick channel kicked text is named other short =
     user_read reader nick (fits max_words text) (is_channel channel && is_nick kicked)
     (Kick nick channel kicked text) is (words_fit max_words text short)
-    (both (is_channel channel) (is_nick kicked) named other)
+    (and_from (is_channel channel) (is_nick kicked) named other)
 
 pub invite_read : (reader : Reader) (nick invited channel : List ℕ)
     → IsExpected reader nick (Invite nick invited channel) → IsNick invited → IsChannel channel
@@ -153,7 +152,7 @@ pub invite_read : (reader : Reader) (nick invited channel : List ℕ)
 invite_read reader nick invited channel is other named =
     user_read reader nick true (is_nick invited && is_channel channel)
     (Invite nick invited channel) is refl
-    (both (is_nick invited) (is_channel channel) other named)
+    (and_from (is_nick invited) (is_channel channel) other named)
 
 pub topic_read : (reader : Reader) (nick channel text : List ℕ) → IsExpected reader nick
     (SetTopic (by.User nick) channel text) → IsChannel channel → length text ≤ max_words
@@ -164,7 +163,7 @@ topic_read reader nick channel text is named short =
     ((is_nick nick || is_server nick) && is_channel channel)
     (change_of reader nick channel (λ doer. SetTopic doer channel text))
     (words_fit max_words text short) (far_may_come reader nick is.named is.far)
-    (both (is_nick nick || is_server nick) (is_channel channel)
+    (and_from (is_nick nick || is_server nick) (is_channel channel)
     (ap (λ b. b || is_server nick) is.named) named)
     ∙ ap Ok
     (ap (λ b. if b then (if reader.has_far channel then SetTopic by.Home channel text ∷ [] else [])
@@ -174,12 +173,7 @@ topic_read reader nick channel text is named short =
 -- a user's mode
 itself : (nick : List ℕ) → is_itself_or_none nick nick ≡ true
 itself nick = ap (λ b. not (is_nick nick && is_nick nick) || b) ((same-tells nick nick).1 refl)
-    ∙ or_true (not (is_nick nick && is_nick nick))
-  where
-    or_true : (b : Bool) → (b || true) ≡ true
-    or_true true = refl
-    or_true false = refl
-
+    ∙ or-true (not (is_nick nick && is_nick nick))
 for_user : (reader : Reader) (name nick : List ℕ) (words : List (List ℕ)) → IsNick nick
     → mode_line reader (Some name) (nick ∷ words) ≡ user_mode_line reader name nick words
 for_user reader name nick words named =

@@ -1,8 +1,9 @@
 -- What comes of the oldest text.
-use Rattle.std.proofs.Common.{◌≡◌, ℕ, zero, suc, ◌+◌, ◌≤◌, Bool, true, false, ◌&&◌, List, [], ◌∷◌}
+use Rattle.std.proofs.Common.{◌≡◌, ℕ, zero, suc, ◌+◌, ◌≤◌, true, List, [], ◌∷◌}
 use Rattle.std.proofs.Common.{◌++◌, drop, take, length, refl, sym, ◌∙◌, ap, arith, length-append}
 use Rattle.std.proofs.Common.{length-take, subst}
 use Rattle.std.proofs.lemmas.List.{drop-drop}
+use Rattle.std.specs.Cmp.{first_so}
 use Rattle.arrayvec.specs.ArrayVec.{ArrayVec}
 use Rattle.irc_line.specs.Laws.{PiecesCompleteTheSame}
 use Rattle.irc_line.specs.Lines.{Begun, HasTaken, Takes, begun_behind, completed, stream_for}
@@ -71,10 +72,6 @@ module _ (pieces : PiecesCompleteTheSame) (come used most : ℕ) (texts : List (
 
 -- ---- up to an LF
 
-both_left : (a b : Bool) → (a && b) ≡ true → a ≡ true
-both_left true b both = refl
-both_left false b both = cc both
-
 pub feed_of_all : (come : ℕ) (texts : List (ArrayVec ℕ)) (begun : Begun)
     → IsOnItsWay come texts begun
     → through_line_feed (rest_of_oldest come texts) ≡ through_line_feed (drop come (joined texts))
@@ -86,6 +83,6 @@ feed_of_all come texts begun kept = by texts kept.part kept.feeds
     by [] part feeds = ap (λ n. through_line_feed (drop n [])) (sym part)
     by (text ∷ texts) part feeds =
         sym (feed_within (drop come text.items) (joined texts)
-        (rest_ends come text.items part (both_left _ _ feeds)))
+        (rest_ends come text.items part (first_so _ _ feeds)))
         ∙ ap through_line_feed
         (sym (bytes_are come (text ∷ texts) (part_is_within come (text ∷ texts) part)))

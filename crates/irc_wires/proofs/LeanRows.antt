@@ -10,6 +10,7 @@ use Rattle.std.specs.FinMap.{nat_cmp-IsAntisymmetric, remove, same_map}
 use Rattle.std.specs.List.{list_all}
 use Rattle.std.specs.Map.{keys_of}
 use Rattle.std.specs.Ordering.{nat_cmp}
+use Rattle.std.proofs.Math.Nat.{suc_inj}
 use Rattle.irc_line.specs.Bytes.{crlf, cut}
 use Rattle.irc_line.specs.Lines.{has_nothing, tail}
 use Rattle.irc_stage.specs.Lemmas.Listed.{listed}
@@ -188,11 +189,7 @@ same_wires (row ∷ one) [] lean lean_too long alike = absurd (omega (arith, lon
 same_wires (row ∷ one) (known ∷ other) lean lean_too long alike =
     ap (λ r. r ∷ one) (rows_same row known lean.0 lean_too.0 (alike 0))
     ∙ ap (λ wires. known ∷ wires) (same_wires one other lean.1 lean_too.1
-    (less (length one) (length other) long) (λ from. alike (suc from)))
-  where
-    less : (a b : ℕ) → suc a ≡ suc b → a ≡ b
-    less a b long = omega (arith, long)
-
+    (suc_inj long) (λ from. alike (suc from)))
 -- ---- where nothing was written
 
 pub none_kept : (servers : ℕ) → AreLean (replicate servers empty)

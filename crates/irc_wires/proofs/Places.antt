@@ -1,5 +1,5 @@
 -- The wires from the server at a place.
-use Rattle.std.proofs.Common.{◌≡◌, ◌<◌, ◌≤◌, ℕ, zero, suc, Some, None, List, [], ◌∷◌, refl, sym}
+use Rattle.std.proofs.Common.{◌≡◌, ◌<◌, ℕ, zero, suc, Some, None, List, [], ◌∷◌, sym}
 use Rattle.std.proofs.Common.{◌∙◌, ap, arith, length, get_or}
 use Rattle.std.specs.List.{slice_get, slice_set}
 use Rattle.std.specs.Option.{option_map_or}
@@ -11,11 +11,6 @@ pub found_at : {X : Type 0} (xs : List X) (i : ℕ) (x : X) → i < length xs �
 found_at [] i x within is = absurd (omega (arith, within))
 found_at (y ∷ xs) zero x within is = ap Some (sym is)
 found_at (y ∷ xs) (suc i) x within is = found_at xs i x (omega (arith, within)) is
-
-pub none_at : {X : Type 0} (xs : List X) (i : ℕ) → length xs ≤ i → slice_get xs i ≡ None
-none_at [] i behind = refl
-none_at (y ∷ xs) zero behind = absurd (omega (arith, behind))
-none_at (y ∷ xs) (suc i) behind = none_at xs i (omega (arith, behind))
 
 pub wire_there : (wires : Wires) (from to : ℕ) (row : WireRow) → slice_get wires from ≡ Some row
     → wire_at wires from to ≡ wire_in to row

@@ -1,24 +1,12 @@
 -- Bytes that come part by part.
-use Rattle.std.proofs.Common.{◌≡◌, ℕ, zero, suc, ◌+◌, ◌-◌, ◌≤◌, min, false, not, List, [], ◌∷◌}
+use Rattle.std.proofs.Common.{◌≡◌, ℕ, ◌+◌, ◌-◌, ◌≤◌, min, false, not, List, [], ◌∷◌}
 use Rattle.std.proofs.Common.{◌++◌, drop, take, length, refl, sym, ◌∙◌, ap, arith, append-nil}
-use Rattle.std.proofs.Common.{append_assoc, length-drop}
+use Rattle.std.proofs.Common.{append_assoc, length-drop, take-add}
 use Rattle.std.proofs.lemmas.List.{drop-drop, drop_min, take_min}
 use Rattle.irc_line.specs.Laws.{AreTakenInTurn, PiecesCompleteTheSame}
 use Rattle.irc_line.specs.Lines.{HasTaken, begun_behind, completed, stream_for}
 use Rattle.irc_wires.specs.Wires.{LinkWire, advanced, has_byte, is_none, lines_by}
 use Rattle.irc_wires.specs.Loops.Parts.{HasCome}
-
-take_empty : (n : ℕ) → ◌≡◌ {A = List ℕ} (take n []) []
-take_empty zero = refl
-take_empty (suc n) = refl
-
--- the first bytes, and then some more
-take_more : (a b : ℕ) (bytes : List ℕ) → take (a + b) bytes ≡ take a bytes ++ take b (drop a bytes)
-take_more zero b bytes = let none : 0 + b ≡ b = omega arith in ap (λ n. take n bytes) none
-take_more (suc a) b [] = take_empty (suc a + b) ∙ sym (take_empty b)
-take_more (suc a) b (byte ∷ bytes) =
-    let one : suc a + b ≡ suc (a + b) = omega arith in
-    ap (λ n. take n (byte ∷ bytes)) one ∙ ap (λ bs. byte ∷ bs) (take_more a b bytes)
 
 module _ (pieces : PiecesCompleteTheSame) (old : LinkWire)
     (stream : HasTaken old.begun (stream_for old.begun)) where
@@ -31,14 +19,14 @@ module _ (pieces : PiecesCompleteTheSame) (old : LinkWire)
       → advanced used (advanced taken old) ≡ advanced (taken + used) old
   advanced_on taken used = λ i. record {
     begun = (sym (turns taken used).begun
-        ∙ ap (begun_behind old.begun) (sym (take_more taken used old.bytes))) i;
+        ∙ ap (begun_behind old.begun) (sym (take-add taken used old.bytes))) i;
     bytes = drop-drop used taken old.bytes i;
   }
 
   pub lines_on : (taken used : ℕ)
       → lines_by taken old ++ lines_by used (advanced taken old) ≡ lines_by (taken + used) old
   lines_on taken used =
-      sym (turns taken used).lines ∙ ap (completed old.begun) (sym (take_more taken used old.bytes))
+      sym (turns taken used).lines ∙ ap (completed old.begun) (sym (take-add taken used old.bytes))
 
   pub none_come : (count : ℕ) (lines : List (List ℕ)) → HasCome count 0 old old lines lines
   none_come count lines = record {

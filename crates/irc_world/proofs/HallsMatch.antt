@@ -5,6 +5,7 @@ use Rattle.std.proofs.Common.{ap, is_some}
 use Rattle.std.specs.Option.{option_map_or, option_and_then}
 use Rattle.std.specs.Ordering.{nat_cmp}
 use Rattle.std.specs.FinMap.{get, empty, get-empty, retain_keys}
+use Rattle.std.proofs.lemmas.Option.{same_Some}
 use Rattle.irc_names.specs.Fold.{key}
 use Rattle.irc_names.specs.Tables.{row, fold_cmp}
 use Rattle.irc_line.specs.Reading.{read_of}
@@ -41,7 +42,7 @@ use Rattle.irc_world.proofs.HomesKept.{named, no_users}
 use Rattle.irc_world.proofs.HomesJoined.{passing, near_sides, far_sides, at_lost_side}
 use Rattle.irc_world.proofs.HomesJoined.{at_other_side, nobody_joined}
 use Rattle.irc_world.proofs.MachineMatches.{home_in_row, IsDue, handled_matched}
-use Rattle.irc_world.proofs.Matches.{same_some, IsOfBoth, fewer_matched, both_matched}
+use Rattle.irc_world.proofs.Matches.{IsOfBoth, fewer_matched, both_matched}
 use Rattle.irc_world.proofs.ServedAlone.{past_end}
 use Rattle.irc_world.specs.Lemmas.HomesAdded.{still_home}
 use Rattle.irc_world.proofs.StaysSound.{new_world_is_sound, LinkIsTaken, link_taken, link_there}
@@ -58,14 +59,14 @@ MatchedHall homes hall =
 in_row : {A : Type 0} (home : Name) (o : Option User) → home_in_row o ≡ Some home
     → ((user : User) → o ≡ Some user → user.home ≡ home → A) → A
 in_row home None is found = absurd (cc is)
-in_row home (Some user) is found = found user refl (same_some user.home home is)
+in_row home (Some user) is found = found user refl (same_Some user.home home is)
 
 -- a client under a number, from its fold
 in_clients : {A : Type 0} (fold : List ℕ) (o : Option Client) → option_and_then fold_of o
     ≡ Some fold → ((nick : List ℕ) → o ≡ Some (Registered nick) → key nick ≡ fold → A) → A
 in_clients fold None is found = absurd (cc is)
 in_clients fold (Some (Registering pending)) is found = absurd (cc is)
-in_clients fold (Some (Registered nick)) is found = found nick refl (same_some (key nick) fold is)
+in_clients fold (Some (Registered nick)) is found = found nick refl (same_Some (key nick) fold is)
 
 -- ---- a client does something
 
@@ -228,7 +229,7 @@ module _ (settings : List Setting) (world : World) (near far : Name)
       let near_home = sound.clients_home near client here in
       let far_home = sound.clients_home far client behind in
       let home =
-      same_some near_home.home far_home.home (sym near_home.is_home ∙ far_home.is_home) in
+      same_Some near_home.home far_home.home (sym near_home.is_home ∙ far_home.is_home) in
       two_parts world.links near far taken.apart (sym near_home.joined
       ∙ (ap (part world.links) home ∙ far_home.joined))
 

@@ -6,6 +6,7 @@ use Rattle.std.proofs.Math.Path.{fun_ext}
 use Rattle.std.proofs.lemmas.List.Sums.{sum_by-cons}
 use Rattle.std.specs.List.{list_any}
 use Rattle.std.specs.FinMap.{entries, keys, retain_keys}
+use Rattle.std.proofs.lemmas.Bool.{or_right}
 use Rattle.irc_names.specs.Tables.{Table, tabulate}
 use Rattle.irc_names.specs.TableLaws.{same_fold, same_fold-refl, one_fold, same_table, row-tabulate}
 use Rattle.irc_names.specs.TableLaws.{row-keys}
@@ -39,10 +40,6 @@ one_test s t = elim (tell s t) [
     by true one two = absurd (two (one_fold s t one))
     by false one two = refl
 
-or_second : (a b : Bool) → b ≡ true → (a || b) ≡ true
-or_second true b is = refl
-or_second false b is = is
-
 is_named : (settings : List Setting) (s : Name) → is_server settings s ≡ true
     → list_any (same_fold s) (names_of settings) ≡ true
 is_named [] s there = cc
@@ -54,7 +51,7 @@ is_named (first ∷ settings) s there = by (tell first.name s) (is_named setting
     by (alike _ e) later = ap (λ b. b || list_any (same_fold s) (names_of settings))
         (ap (same_fold s) e ∙ same_fold-refl s)
     by (unlike is _) later =
-        or_second (same_fold s first.name) (list_any (same_fold s) (names_of settings))
+        or_right (same_fold s first.name) (list_any (same_fold s) (names_of settings))
         (later (sym (ap (λ b. is_some (if b then Some first else setting_of settings s)) is)
         ∙ there))
 

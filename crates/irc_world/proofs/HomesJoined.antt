@@ -6,6 +6,7 @@ use Rattle.std.specs.List.{list_any}
 use Rattle.std.specs.Option.{option_map_or}
 use Rattle.std.specs.Cmp.Lexicographic.{bytes_decides, texts_ties}
 use Rattle.std.specs.FinMap.{get-empty}
+use Rattle.std.proofs.lemmas.Bool.{or_right}
 use Rattle.irc_names.specs.Tables.{row, tabulate, fold_cmp}
 use Rattle.irc_names.specs.TableLaws.{same_fold, same_fold-refl, row-keys, row-tabulate}
 use Rattle.irc_line.specs.Reading.{read_of}
@@ -42,10 +43,6 @@ is_listed [] server known = absurd (cc known)
 is_listed (s ∷ settings) server known =
     by (same s.name server) refl (is_listed settings server) known
   where
-    or_second : (b c : Bool) → c ≡ true → (b || c) ≡ true
-    or_second true c second = refl
-    or_second false c second = second
-
     by : (b : Bool) → same s.name server ≡ b → (is_server settings server ≡ true
         → list_any (same_fold server) (map (λ (t : Setting). t.name) settings) ≡ true)
         → is_some (cond b (Some s) (setting_of settings server)) ≡ true → (same_fold server s.name
@@ -53,7 +50,7 @@ is_listed (s ∷ settings) server known =
     by true one behind known =
         ap (λ b. b || list_any (same_fold server) (map (λ (t : Setting). t.name) settings))
         (ap (same_fold server) ((bytes_decides s.name server).0 one) ∙ same_fold-refl server)
-    by false two behind known = or_second (same_fold server s.name) _ (behind known)
+    by false two behind known = or_right (same_fold server s.name) _ (behind known)
 
 abbrev if_passes : (Name → Bool) → Name → Option (Unit {0})
 if_passes test server = if test server then Some (tt {0}) else None

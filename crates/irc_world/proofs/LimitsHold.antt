@@ -8,6 +8,7 @@ use Rattle.std.specs.Ordering.{nat_cmp}
 use Rattle.std.specs.Cmp.{nat_cmp_total}
 use Rattle.std.specs.FinMap.{get, insert, remove, entries, get-empty, get-insert, get-remove}
 use Rattle.std.specs.FinMap.{get-entries, get-from_entries}
+use Rattle.std.proofs.lemmas.Option.{same_Some}
 use Rattle.irc_names.specs.Fold.{key}
 use Rattle.irc_names.specs.Names.{IsHost, IsServer}
 use Rattle.irc_names.specs.Tables.{row}
@@ -51,7 +52,7 @@ use Rattle.irc_world.specs.WithinLimits.{StepKeepsLimits, RoomsKeepLimits}
 use Rattle.irc_world.proofs.Halls.{hall_with}
 use Rattle.irc_world.proofs.HomesKept.{named}
 use Rattle.irc_world.proofs.MachineMatches.{find_each}
-use Rattle.irc_world.proofs.Matches.{same_some, same_number}
+use Rattle.irc_world.proofs.Matches.{same_number}
 use Rattle.irc_world.proofs.StaysSound.{new_world_is_sound}
 use Rattle.irc_world.specs.Lemmas.MergedClients.{first_of, get-kept, get-merged}
 
@@ -93,7 +94,7 @@ given_with clients conn client all new q pending is =
   where
     by : (b : Bool) → cond b (Some client) (get clients q) ≡ Some (Registering pending)
         → IsPendingWithin pending
-    by true is = new pending (same_some client (Registering pending) is)
+    by true is = new pending (same_Some client (Registering pending) is)
     by false is = all q pending is
 
 given_without : (clients : Clients) (conn : ℕ) → AreGiven clients → AreGiven (remove clients conn)

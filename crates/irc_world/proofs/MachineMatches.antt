@@ -1,14 +1,16 @@
 -- Whatever a client does, the clients and the users of its part stay matched.
-use Rattle.std.proofs.Common.{◌≡◌, ℕ, Bool, true, false, cond, not, ◌&&◌, ◌||◌, Option, Some, None}
+use Rattle.std.proofs.Common.{◌≡◌, ℕ, Bool, true, false, cond, not, Option, Some, None}
 use Rattle.std.proofs.Common.{Ok, Err, List, [], ◌∷◌, refl, sym, ◌∙◌, ap, subst, is_some, map}
 use Rattle.std.proofs.Common.{option_map, if◌then◌else◌}
 use Rattle.std.specs.List.{list_any}
 use Rattle.std.specs.Option.{option_and_then}
-use Rattle.std.specs.Cmp.{nat_cmp_total}
+use Rattle.std.specs.Cmp.{nat_cmp_total, first_so}
 use Rattle.std.specs.Cmp.Lexicographic.{bytes_decides, texts_ties}
 use Rattle.std.specs.Ordering.{nat_cmp}
 use Rattle.std.specs.FinMap.{get, insert, remove, entries, find, get-insert, get-remove}
 use Rattle.std.specs.FinMap.{get-entries, get-from_entries}
+use Rattle.std.proofs.lemmas.Bool.{or_parts}
+use Rattle.irc_names.specs.Lemmas.PlainFacts.{implied}
 use Rattle.irc_names.specs.Fold.{key, same}
 use Rattle.irc_names.specs.Tables.{row}
 use Rattle.irc_names.specs.TableLaws.{same_fold, one_fold, row-alter, row-moved}
@@ -123,18 +125,6 @@ home_of_cond : (b : Bool) (x y : Option User)
 home_of_cond true x y = refl
 home_of_cond false x y = refl
 
-or_second : (b c : Bool) → (not b || c) ≡ true → b ≡ true → c ≡ true
-or_second true c either is = either
-or_second false c either is = absurd (cc is)
-
-front : (b : Bool) → (b && true) ≡ true → b ≡ true
-front true all = refl
-front false all = absurd (cc all)
-
-neither : (b c : Bool) → (b || c) ≡ false → (b ≡ false) × (c ≡ false)
-neither true c is = absurd (cc is)
-neither false c is = (refl, is)
-
 module _ (homes : ℕ → Option Name) where
   abbrev pub IsMatched : RoomMachine → Type 0
   IsMatched machine = AreMatched homes (home_under machine.room) (registered_as machine.clients)
@@ -144,7 +134,7 @@ module _ (homes : ℕ → Option Name) where
     free : (home : Name) → home_under machine.room (key new) ≡ Some home → key new ≡ key nick
     free home is =
         sym ((bytes_decides (key nick) (key new)).0
-        (or_second (has_user machine.room new) (same nick new) possible.nick_free
+        (implied (has_user machine.room new) (same nick new) possible.nick_free
         (there (row machine.room.users (key new)) is)))
       where
         there : (o : Option User) → home_in_row o ≡ Some home → is_some o ≡ true
@@ -154,7 +144,7 @@ module _ (homes : ℕ → Option Name) where
     renamed_matched : IsMatched (machine_after machine (Rename nick new))
     unfolding after
     renamed_matched = by (row machine.room.users (key nick)) refl
-        (front (has_user machine.room nick) possible.users_there)
+        (first_so (has_user machine.room nick) true possible.users_there)
       where
         by : (o : Option User) → row machine.room.users (key nick) ≡ o → is_some o ≡ true
             → IsMatched (machine_after machine (Rename nick new))
@@ -218,7 +208,7 @@ module _ (homes : ℕ → Option Name) where
   quiet_steps conn name (Raw line ∷ acts) before matched possible quiet =
       quiet_steps conn name acts (stepped conn name (Raw line) before) matched possible quiet
   quiet_steps conn name (Do effect ∷ acts) before matched possible quiet =
-      let parts = neither (adds_or_ends (Do effect)) (list_any adds_or_ends acts) quiet in
+      let parts = or_parts (adds_or_ends (Do effect)) (list_any adds_or_ends acts) quiet in
       quiet_steps conn name acts (with_effect effect before)
       (quiet_matched before.state effect matched possible.now parts.0) possible.later parts.1
 

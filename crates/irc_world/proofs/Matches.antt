@@ -1,20 +1,15 @@
 -- Clients and users that belong together, and what keeps them so: somebody is renamed, comes or
 -- goes, and two such lists become one.
 use Rattle.std.proofs.Common.{◌≡◌, ℕ, Bool, true, false, cond, Option, Some, None, List, refl, sym}
-use Rattle.std.proofs.Common.{◌∙◌, ap, unwrap_or, option_map, ◌⊎◌, ⊎_elim}
+use Rattle.std.proofs.Common.{◌∙◌, ap, option_map, ◌⊎◌, ⊎_elim}
 use Rattle.std.specs.Ordering.{eq_by_cmp, nat_cmp}
 use Rattle.std.specs.Cmp.{nat_cmp_total, eq_by_cmp_equiv, Equal-is}
 use Rattle.std.specs.FinMap.{nat_cmp-IsAntisymmetric}
+use Rattle.std.proofs.lemmas.Bool.{false_from_ne_true}
+use Rattle.std.proofs.lemmas.Option.{same_Some}
 use Rattle.irc_names.specs.TableLaws.{same_fold, same_fold-refl, one_fold}
 use Rattle.irc_relay.specs.Links.{Name}
 use Rattle.irc_world.specs.ClientsUsers.{HasClient, AreMatched}
-
-pub same_some : {X : Type 0} (x y : X) → Some x ≡ Some y → x ≡ y
-same_some x y is = ap (λ o. unwrap_or o x) is
-
-pub is_false : (b : Bool) → (b ≡ true → ⊥) → b ≡ false
-is_false true never = absurd (never refl)
-is_false false never = refl
 
 -- whether two numbers are one
 abbrev pub same_number : ℕ → ℕ → Bool
@@ -73,7 +68,7 @@ module _ (homes : ℕ → Option Name) (user_home : List ℕ → Option Name)
     user_has_client = λ fold home is.
         let old = m.user_has_client fold home (users_were fold home is) in
         let one = m.registered_is_user old.client fold old.is_registered in
-        let same = same_some home one.home (sym (users_were fold home is) ∙ one.of_user) in
+        let same = same_Some home one.home (sym (users_were fold home is) ∙ one.of_user) in
         record {
           client = old.client;
           is_registered = client_stays old.client fold one.home
@@ -97,16 +92,17 @@ module _ (homes : ℕ → Option Name) (user_home : List ℕ → Option Name)
       (client_was client fold (same_number client gone) refl (sym (clients_are client) ∙ is)).0
       in
       users_are fold
-      ∙ ap (λ b. cond b None (user_home fold)) (is_false (same_fold fold left) (λ one.
+      ∙ ap (λ b. cond b None (user_home fold)) (false_from_ne_true (same_fold fold left) (λ one.
       let number =
       m.user_has_one gone client fold (is_gone ∙ ap Some (sym (one_fold fold left one))) was in
       let same = sym apart ∙ ap (λ n. same_number n gone) number ∙ same_number-refl gone in
       cc same)) ∙ of_user)
       (λ client fold home was of_client of_user is.
       clients_are client
-      ∙ ap (λ b. cond b None (registered client)) (is_false (same_number client gone) (λ one.
+      ∙ ap (λ b. cond b None (registered client))
+          (false_from_ne_true (same_number client gone) (λ one.
       let fold_is =
-      same_some fold left (sym was ∙ ap registered (one_number client gone one) ∙ is_gone) in
+      same_Some fold left (sym was ∙ ap registered (one_number client gone one) ∙ is_gone) in
       let none = sym (users_are fold ∙ ap (λ b. cond b None (user_home fold))
       (ap (λ f. same_fold f left) fold_is ∙ same_fold-refl left)) ∙ is in cc none))
       ∙ was)
@@ -144,7 +140,7 @@ module _ (homes : ℕ → Option Name) (user_home : List ℕ → Option Name)
               home = old.home;
               of_client = old.of_client;
               of_user = users_are fold ∙ ap (λ b. cond b (Some new_home) (user_home fold))
-                  (is_false (same_fold fold new) (not_new client fold was)) ∙ old.of_user;
+                  (false_from_ne_true (same_fold fold new) (not_new client fold was)) ∙ old.of_user;
             });
         user_has_one = λ client other fold is is_other. came client fold is
             (λ client_is fold_is. came other fold is_other
@@ -167,7 +163,7 @@ module _ (homes : ℕ → Option Name) (user_home : List ℕ → Option Name)
         where
           by : (b : Bool) → same_number client come ≡ b
               → cond b (Some new) (registered client) ≡ Some fold → A
-          by true one is = mine (one_number client come one) (same_some new fold is)
+          by true one is = mine (one_number client come one) (same_Some new fold is)
           by false two is = others two is
 
       not_new : (client : ℕ) (fold : List ℕ) → registered client ≡ Some fold
@@ -189,7 +185,7 @@ module _ (homes : ℕ → Option Name) (user_home : List ℕ → Option Name)
           record {
             client = old.client;
             is_registered = clients_are old.client ∙ ap (λ b. cond b (Some new)
-                (registered old.client)) (is_false (same_number old.client come) (λ one.
+                (registered old.client)) (false_from_ne_true (same_number old.client come) (λ one.
                 let clash = sym none ∙ ap registered (sym (one_number old.client come one))
                 ∙ old.is_registered in cc clash)) ∙ old.is_registered;
           }
@@ -219,7 +215,8 @@ module _ (homes : ℕ → Option Name) (user_home : List ℕ → Option Name)
               home = one.home;
               of_client = one.of_client;
               of_user =
-                  at_other fold (is_false (same_fold fold new) (not_new client fold was two)) two
+                  at_other fold
+                      (false_from_ne_true (same_fold fold new) (not_new client fold was two)) two
                   ∙ one.of_user;
             });
         user_has_one = λ client other fold is is_other. moves client fold is
@@ -244,9 +241,9 @@ module _ (homes : ℕ → Option Name) (user_home : List ℕ → Option Name)
           by_fold : (was_fold : List ℕ) (b : Bool) → same_fold was_fold old ≡ b
               → registered client ≡ Some was_fold → Some (cond b new was_fold) ≡ Some fold → A
           by_fold was_fold true one was now =
-              took (was ∙ ap Some (one_fold was_fold old one)) (same_some new fold now)
+              took (was ∙ ap Some (one_fold was_fold old one)) (same_Some new fold now)
           by_fold was_fold false two was now = stayed (was ∙ now)
-              (ap (λ f. same_fold f old) (sym (same_some was_fold fold now)) ∙ two)
+              (ap (λ f. same_fold f old) (sym (same_Some was_fold fold now)) ∙ two)
 
           by : (o : Option (List ℕ)) → registered client ≡ o
               → option_map (λ f. cond (same_fold f old) new f) o ≡ Some fold → A

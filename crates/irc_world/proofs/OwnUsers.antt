@@ -2,6 +2,7 @@
 use Rattle.std.proofs.Common.{◌≡◌, ℕ, Bool, true, false, ◌||◌, Option, Some, None, Ok, Err, List}
 use Rattle.std.proofs.Common.{[], ◌∷◌, refl, sym, ◌∙◌, ap, subst}
 use Rattle.std.specs.List.{list_any}
+use Rattle.std.proofs.lemmas.Bool.{or_parts}
 use Rattle.irc_names.specs.Fold.{key}
 use Rattle.irc_names.specs.Tables.{row}
 use Rattle.irc_line.specs.Messages.{Parsed}
@@ -29,14 +30,10 @@ adds_none (Answer reply) none = refl
 adds_none (Raw line) none = refl
 adds_none (Do effect) none = absurd (cc none)
 
-neither : (b c : Bool) → (b || c) ≡ false → (b ≡ false) × (c ≡ false)
-neither true c is = absurd (cc is)
-neither false c is = (refl, is)
-
 none_added : (acts : List Act) → list_any is_effect acts ≡ false → list_any adds_user acts ≡ false
 none_added [] none = refl
 none_added (act ∷ acts) none =
-    let both = neither (is_effect act) (list_any is_effect acts) none in
+    let both = or_parts (is_effect act) (list_any is_effect acts) none in
     ap (λ b. b || list_any adds_user acts) (adds_none act both.0) ∙ none_added acts both.1
 
 module _ (passes : List ℕ → Bool) where
@@ -53,7 +50,7 @@ module _ (passes : List ℕ → Bool) where
   steps_pass conn name (Raw line ∷ acts) before all none =
       steps_pass conn name acts (stepped conn name (Raw line) before) all none
   steps_pass conn name (Do effect ∷ acts) before all none =
-      let both = neither (adds_user (Do effect)) (list_any adds_user acts) none in
+      let both = or_parts (adds_user (Do effect)) (list_any adds_user acts) none in
       steps_pass conn name acts (with_effect effect before)
       (pass_after passes before.state.room effect all (adds_nobody effect both.0)) both.1
 

@@ -3,6 +3,7 @@ use Rattle.std.proofs.Common.{◌≡◌, ℕ, Bool, true, false, Option, Some, N
 use Rattle.std.proofs.Common.{sym, ◌∙◌, ap, is_some, if◌then◌else◌}
 use Rattle.std.specs.Option.{option_and_then}
 use Rattle.std.specs.FinMap.{get}
+use Rattle.std.proofs.lemmas.Option.{same_Some}
 use Rattle.irc_line.specs.Reading.{read_of}
 use Rattle.irc_stage.specs.declared.clients.Client.{Client}
 use Rattle.irc_server.specs.declared.event.Event.{Event}
@@ -20,7 +21,6 @@ use Rattle.irc_world.specs.Stepping.{connect, line, gone, link, cut}
 use Rattle.irc_world.specs.Refused.{refused, open_client, no_such_server, no_such_client}
 use Rattle.irc_world.specs.Sound.{IsSound}
 use Rattle.irc_world.specs.OneServer.{IsTheServer, OneServerRefuses}
-use Rattle.irc_world.proofs.Matches.{same_some}
 use Rattle.irc_world.proofs.ServedAlone.{one_name}
 
 abbrev conn_of : ClientEvent → ℕ
@@ -80,11 +80,11 @@ one_server_refuses setting world view (connect server host) event sound is same 
     by false taken = cc taken
 one_server_refuses setting world view (line client bytes) event sound is same taken =
     event_refused setting world view sound is client (says client (read_of bytes)) event
-    (same_some (of_client (says client (read_of bytes))) (read_event_of event) same) refl
+    (same_Some (of_client (says client (read_of bytes))) (read_event_of event) same) refl
     (λ conn host is. cc is) (is_refused (is_some (open_client world client)) taken)
 one_server_refuses setting world view (gone client) event sound is same taken =
     event_refused setting world view sound is client (goes client) event
-    (same_some (of_client (goes client)) (read_event_of event) same) refl
+    (same_Some (of_client (goes client)) (read_event_of event) same) refl
     (λ conn host is. cc is) (is_refused (is_some (open_client world client)) taken)
 one_server_refuses setting world view (link near far) event sound is same taken = absurd (cc same)
 one_server_refuses setting world view (cut near far) event sound is same taken = absurd (cc same)

@@ -2,13 +2,14 @@
 -- found, and a user's own mode is another.
 use Rattle.std.proofs.Common.{◌≡◌, ◌≢◌, ℕ, Bool, true, false, cond, ◌||◌, ◌++◌, nat_eq, find}
 use Rattle.std.proofs.Common.{filter, is_some, unwrap_or, option_map, Option, Some, None, List, []}
-use Rattle.std.proofs.Common.{◌∷◌, refl, sym, ◌∙◌, ap, subst}
+use Rattle.std.proofs.Common.{◌∷◌, refl, sym, ◌∙◌, ap, subst, true≢false}
 use Rattle.std.specs.Prelude.{⊤}
 use Rattle.std.specs.List.{list_any}
 use Rattle.std.specs.Option.{option_map_or}
-use Rattle.std.specs.Cmp.{nat_eq_equiv}
 use Rattle.std.specs.Ordering.{is_lt}
 use Rattle.std.proofs.lemmas.List.Folds.{list_any-append}
+use Rattle.std.proofs.lemmas.Option.{same_Some}
+use Rattle.std.proofs.lemmas.Bool.{or_left, or_right, eq-eqb}
 use Rattle.irc_names.specs.Fold.{key, same, name_cmp}
 use Rattle.irc_names.specs.FoldLaws.{same-equivalence}
 use Rattle.irc_names.specs.Names.{is_key, is_ban_mask}
@@ -96,9 +97,6 @@ key_apart word before is none e = never (sym (ap (λ b. cond b (Some word) befor
     never : {A : Type 0} → Some word ≡ None → A
     never h = cc
 
-alike : (n : ℕ) → nat_eq n n ≡ true
-alike n = nat_eq_equiv.refl n
-
 limit_apart : (word : List ℕ) (before : Option ℕ) → is_limit word ≡ true
     → option_map_or (nat_eq (number_of word)) before false ≡ false
     → cond (is_limit (without_zeros word)) (Some (number_of (without_zeros word))) before ≢ before
@@ -106,23 +104,11 @@ limit_apart word before is other e =
     let set : Some (number_of word) ≡ before =
     ap Some (sym (number_still word)) ∙ sym (ap
     (λ b. cond b (Some (number_of (without_zeros word))) before) (limit_still word is)) ∙ e in
-    never (sym (alike (number_of word))
-    ∙ ap (λ o. option_map_or (nat_eq (number_of word)) o false) set ∙ other)
-  where
-    never : {A : Type 0} → true ≡ false → A
-    never h = cc
-
+    absurd (true≢false (sym (eq-eqb (number_of word) (number_of word) refl)
+            ∙ ap (λ o. option_map_or (nat_eq (number_of word)) o false) set ∙ other))
 some_apart : {X : Type 0} (before : Option X) → is_some before ≡ true → None ≢ before
 some_apart None there e = cc
 some_apart (Some x) there e = cc
-
-or_last : (a b : Bool) → b ≡ true → (a || b) ≡ true
-or_last true b is = refl
-or_last false b is = is
-
-or_first : (a b : Bool) → a ≡ true → (a || b) ≡ true
-or_first true b is = refl
-or_first false b is = cc
 
 -- a mask that is set is there
 set_there : (mask : List ℕ) (bans : List (List ℕ))
@@ -131,33 +117,22 @@ set_there mask bans =
     let front = filter (λ ban. is_lt (name_cmp ban mask)) bans in
     let back = filter (λ ban. is_lt (name_cmp mask ban)) bans in
     list_any-append (same mask) front (mask ∷ back)
-    ∙ or_last (list_any (same mask) front) (same mask mask || list_any (same mask) back)
-    (or_first (same mask mask) (list_any (same mask) back) (same-equivalence.refl mask))
+    ∙ or_right (list_any (same mask) front) (same mask mask || list_any (same mask) back)
+    (or_left (same mask mask) (list_any (same mask) back) (same-equivalence.refl mask))
 
 set_apart : (mask : List ℕ) (bans : List (List ℕ)) → is_ban_mask mask ≡ true
     → find (same mask) bans ≡ None → cond (is_ban_mask mask) (with_ban mask bans) bans ≢ bans
 set_apart mask bans is none e =
-    never (sym (set_there mask bans)
-    ∙ ap (list_any (same mask)) (sym (ap (λ b. cond b (with_ban mask bans) bans) is) ∙ e)
-    ∙ sym (find_any (same mask) bans) ∙ ap is_some none)
-  where
-    never : {A : Type 0} → true ≡ false → A
-    never h = cc
-
+    absurd (true≢false (sym (set_there mask bans)
+            ∙ ap (list_any (same mask)) (sym (ap (λ b. cond b (with_ban mask bans) bans) is) ∙ e)
+            ∙ sym (find_any (same mask) bans) ∙ ap is_some none))
 taken_apart : (mask there : List ℕ) (bans : List (List ℕ)) → is_ban_mask mask ≡ true → find
     (same mask) bans ≡ Some there → cond (is_ban_mask there) (without_ban there bans) bans ≢ bans
 taken_apart mask there bans is found e =
-    never (sym (ap is_some found) ∙ find_any (same mask) bans
-    ∙ any_alike mask there (find_passes (same mask) bans there found) bans
-    ∙ ap (list_any (same there))
-    (sym e
-    ∙ ap (λ b. cond b (without_ban there bans) bans)
-    (stored_is_mask mask there bans is found))
-    ∙ taken_gone there bans)
-  where
-    never : {A : Type 0} → true ≡ false → A
-    never h = cc
-
+    absurd (true≢false (sym (ap is_some found) ∙ find_any (same mask) bans
+            ∙ any_alike mask there (find_passes (same mask) bans there found) bans
+            ∙ ap (list_any (same there)) (sym e ∙ ap (λ b. cond b (without_ban there bans) bans)
+              (stored_is_mask mask there bans is found)) ∙ taken_gone there bans))
 -- a member's flag that is another makes its row another
 flag_apart : (members : Table Flags) (nick word : List ℕ) (flags : Flags) (f : Flags → Flags)
     (flag : Flags → Bool) → key nick ≡ key word → row members (key word) ≡ Some flags → differs
@@ -243,16 +218,13 @@ served_changes users start now named (item ∷ items) =
     (one_changes users start now named item)
     (served_changes users start (all_changed first.changes now) named items)
 
-one_found : {X : Type 0} (a b : X) → Some a ≡ Some b → a ≡ b
-one_found a b e = ap (λ o. unwrap_or o a) e
-
 pub mode_does_something : ModeDoesSomething
 mode_does_something me room name words well mine = mode_so IsDoing me room name words (record {
   changes_it = λ channel is operator some found at.
       subst (λ (c : Channel). EachChanges c (changed_by room channel words))
-      (one_found channel found (sym is ∙ ap (row room.channels)
+      (same_Some channel found (sym is ∙ ap (row room.channels)
       (sym ((well.channels_sound (key name) channel is).named)) ∙ at))
       (served_changes room.users channel channel well.users_named (modes_read words));
   sets_own = λ invisible other user at e. apart me.invisible invisible other
-      (ap (λ (u : User). u.invisible) (one_found me user (sym mine ∙ at) ∙ sym e));
+      (ap (λ (u : User). u.invisible) (same_Some me user (sym mine ∙ at) ∙ sym e));
 })

@@ -2,6 +2,7 @@
 -- one channel.
 use Rattle.std.proofs.Common.{◌≡◌, ℕ, Bool, true, false, not, ◌&&◌, Option, Some, None, List, []}
 use Rattle.std.proofs.Common.{◌∷◌, ◌++◌, length, map, nat_le, refl, sym, ap, subst, if◌then◌else◌}
+use Rattle.std.proofs.lemmas.Bool.{not-false}
 use Rattle.irc_names.specs.Fold.{key}
 use Rattle.irc_names.specs.Names.{is_channel}
 use Rattle.irc_names.specs.Tables.{Table, row}
@@ -87,10 +88,6 @@ found_by_users room now me asked (Some channel) same =
 
 -- ---- the walk
 
-not_so : (b : Bool) → not b ≡ false → b ≡ true
-not_so true e = refl
-not_so false e = cc
-
 module _ (Q : Room → Effect → Type 0) (me : User) (room : Room) where
   joins_so : (name : List ℕ) (op : Bool) (channel : Channel) → Q room (Join me.nick channel.name op)
       → EachInTurn Q room (effects_among (joins room me name op channel))
@@ -146,5 +143,5 @@ module _ (Q : Room → Effect → Type 0) (me : User) (room : Room) where
       (λ named. by_test S (is_member room me.nick asked.channel) [] few (λ member. tt)
       (λ outsider. by_test S (nat_le max_joined (length (own_channels room me)))
       (Answer (TooManyChannels asked.channel) ∷ []) found (λ many. tt)
-      (λ some_left. found_so asked so outsider (not_so (is_channel asked.channel) named)
+      (λ some_left. found_so asked so outsider (not-false (is_channel asked.channel) named)
       (row room.channels (key asked.channel)) refl)))

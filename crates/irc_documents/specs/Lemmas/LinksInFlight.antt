@@ -15,6 +15,7 @@ use Rattle.irc_documents.specs.Lemmas.CrossingLists.{crosses, turn, meets_all, m
 use Rattle.irc_documents.specs.Lemmas.CrossingLists.{meets_rest}
 use Rattle.std.proofs.lemmas.List.{take-append-drop, take-append-le, drop-append-le, length-drop}
 use Rattle.std.proofs.lemmas.List.{length-append, append-nil}
+use Rattle.std.proofs.Math.Seq.{take-length}
 
 -- what is left of a log once a count is taken off
 left_over : {A : Type 0} (counted count : ℕ) (log : List A) → counted ≤ count
@@ -25,10 +26,6 @@ left_over counted count log least most =
 
 within : (counted count n : ℕ) → count ≤ counted + n → count - counted ≤ n
 within counted count n most = omega arith
-
-all_taken : {A : Type 0} (log : List A) → take (length log) log ≡ log
-all_taken [] = refl
-all_taken (a ∷ log) = ap (λ more. a ∷ more) (all_taken log)
 
 none_left : {A : Type 0} (log : List A) → drop (length log) log ≡ []
 none_left [] = refl
@@ -149,7 +146,7 @@ module _ {Doc Op : Type 0} (e : Editing Doc Op) where
     long = omega arith
 
     all_off : take (count - end.counted) end.log ≡ end.log
-    all_off = ap (λ k. take k end.log) long ∙ all_taken end.log
+    all_off = ap (λ k. take k end.log) long ∙ take-length end.log
 
     none_stays : drop (count - end.counted) end.log ≡ []
     none_stays = ap (λ k. drop k end.log) long ∙ none_left end.log

@@ -1,6 +1,7 @@
 -- A network stays sound, whatever happens.
 use Rattle.std.proofs.Common.{◌≡◌, ◌≢◌, ℕ, Bool, true, false, not, ◌&&◌, if◌then◌else◌}
 use Rattle.std.proofs.Common.{List, [], ◌∷◌, ◌++◌, map, inl, inr, refl, sym, ap, subst, ◌∙◌}
+use Rattle.std.proofs.lemmas.Bool.{and_right, and_left}
 use Rattle.irc_relay.specs.Links.{Name, same, Link, AreLinked, IsForest, IsWalk}
 use Rattle.irc_relay.specs.Links.{part, linked, links_without, has_ends, way}
 use Rattle.irc_relay.specs.Laws.{TheWayIsAWalk}
@@ -30,20 +31,13 @@ use Rattle.irc_documents.specs.Lemmas.LinksInFlight.{uncrossed}
 
 -- ---- who is who
 
-first_false : (a b : Bool) → a ≡ false → (a && b) ≡ false
-first_false a b e = ap (λ a. a && b) e
-
-second_false : (a b : Bool) → b ≡ false → (a && b) ≡ false
-second_false true b e = e
-second_false false b e = refl
-
 is_from_itself : (s t : Name) → is_from s t s t ≡ true
 is_from_itself s t = ap (λ b. b && same t t) (same_when s s refl) ∙ same_when t t refl
 
 is_from_others : (s t x y : Name) → (x ≡ s → y ≡ t → ⊥) → is_from s t x y ≡ false
 is_from_others s t x y n = elim (tell x s) [
-  | unlike f _ ↦ first_false (same x s) (same y t) f
-  | alike _ e ↦ second_false (same x s) (same y t) (same_unless y t (n e))
+  | unlike f _ ↦ and_left (same x s) (same y t) f
+  | alike _ e ↦ and_right (same x s) (same y t) (same_unless y t (n e))
 ]
 
 -- ---- links that are left

@@ -3,11 +3,11 @@ use Rattle.std.proofs.Common.{◌≡◌, ℕ, Bool, true, false, cond, Option, S
 use Rattle.std.proofs.Common.{refl, sym, ◌∙◌, ap, map, filter, filter_map, is_some, if◌then◌else◌}
 use Rattle.std.proofs.Common.{option_map}
 use Rattle.std.specs.List.{cons_option}
+use Rattle.std.proofs.Math.Bool.{false≢true}
 use Rattle.irc_users.specs.declared.user.User.{User}
 use Rattle.irc_effects.specs.declared.effect.Effect.{Effect}
 use Rattle.irc_effects.specs.Room.{Room}
 use Rattle.irc_effects.specs.Seen.{Showing, seen, shown_to, shown_line, sees}
-use Rattle.irc_effects.specs.Lemmas.Rows.{not_true}
 
 abbrev pub nicks : List Showing → List (List ℕ)
 nicks = map (λ (s : Showing). s.viewer)
@@ -19,7 +19,7 @@ IsLined room effect lined = (viewer : User) → is_some (shown_line room effect 
 one_nick : (user : User) (line : Option (List ℕ)) → is_some line ≡ true → (rest : List Showing)
     → nicks (cons_option (option_map (λ l. record { viewer = user.nick; line = l }) line) rest)
     ≡ user.nick ∷ nicks rest
-one_nick user None lined rest = not_true lined
+one_nick user None lined rest = absurd (false≢true lined)
 one_nick user (Some l) lined rest = refl
 
 -- what is shown to a user, if it sees the effect

@@ -1,10 +1,11 @@
 -- What is asked of a room, and what an effect shows, without a look at who is invited.
 use Rattle.std.proofs.Common.{◌≡◌, ℕ, Bool, true, false, not, ◌&&◌, ◌||◌, if◌then◌else◌, Option}
 use Rattle.std.proofs.Common.{Some, None, List, [], ◌∷◌, refl, ◌∙◌, ap, is_some, is_none, codes}
-use Rattle.std.proofs.Common.{filter_map, map, option_map}
+use Rattle.std.proofs.Common.{filter_map, option_map}
 use Rattle.std.specs.List.{list_any, list_all}
 use Rattle.std.specs.Option.{option_and_then, option_map_or}
 use Rattle.std.specs.FinMap.{values}
+use Rattle.irc_names.specs.Lemmas.PlainFacts.{list_any-map}
 use Rattle.irc_names.specs.Fold.{key, same}
 use Rattle.irc_names.specs.Tables.{row}
 use Rattle.irc_names.specs.TableLaws.{row-each, values-each}
@@ -26,11 +27,6 @@ use Rattle.irc_effects.specs.Applying.{missing_fault, does}
 use Rattle.irc_effects.specs.Invitations.{inviting_only, with_invited}
 use Rattle.irc_effects.specs.Viewers.{shows_to}
 use Rattle.irc_effects.specs.Lemmas.InvitingOnly.{keeping}
-
-list_any_mapped : {X Y : Type 0} (p : Y → Bool) (f : X → Y) (xs : List X)
-    → list_any p (map f xs) ≡ list_any (λ x. p (f x)) xs
-list_any_mapped p f [] = refl
-list_any_mapped p f (x ∷ xs) = ap (λ b. p (f x) || b) (list_any_mapped p f xs)
 
 module _ (stays : List ℕ → Bool) (room : Room) where
   abbrev now : Room
@@ -76,7 +72,7 @@ module _ (stays : List ℕ → Bool) (room : Room) where
   share_same one other =
       ap (list_any (λ channel. has_member (key one) channel && has_member (key other) channel))
       (values-each (inviting_only stays) room.channels)
-      ∙ list_any_mapped (λ channel. has_member (key one) channel && has_member (key other) channel)
+      ∙ list_any-map (λ channel. has_member (key one) channel && has_member (key other) channel)
       (inviting_only stays) (values room.channels)
 
   pub idle_same : (effect : Effect) → is_idle now effect ≡ is_idle room effect

@@ -3,6 +3,7 @@ use Rattle.std.proofs.Common.{◌≡◌, ℕ, false, Option, Some, None, List, r
 use Rattle.std.proofs.Common.{option_map}
 use Rattle.std.specs.Option.{option_and_then, option_map_or}
 use Rattle.std.specs.FinMap.Entries.{find}
+use Rattle.std.proofs.lemmas.Iterator.Adapters.{option_map_id}
 use Rattle.irc_names.specs.Fold.{key}
 use Rattle.irc_names.specs.Tables.{fold_cmp, row}
 use Rattle.irc_channels.specs.declared.channel.Channel.{Channel}
@@ -13,7 +14,7 @@ use Rattle.irc_effects.specs.Effects.{has_user, is_member}
 use Rattle.irc_effects.specs.After.{titled_by}
 use Rattle.irc_effects.specs.Seen.{seen}
 use Rattle.irc_effects.specs.Examples.{room_after, flags_of, of_channel, invited_to}
-use Rattle.irc_effects.specs.Lemmas.Listed.{map_itself, row_listed}
+use Rattle.irc_effects.specs.Lemmas.Listed.{row_listed}
 use Rattle.irc_effects.specs.Lemmas.ListedRooms.{ListedChannel, ListedRoom, channel_of, room_of}
 use Rattle.irc_effects.specs.Lemmas.ListedRooms.{list_after, list_titled, all_listed, titled_listed}
 use Rattle.irc_effects.specs.Lemmas.ListedRooms.{no_list}
@@ -55,7 +56,8 @@ flags_is effects nick name =
         ≡ option_and_then (λ (c : ListedChannel). find fold_cmp (key nick) c.members) o
     by_row None = refl
     by_row (Some c) =
-        row_listed (λ f. f) c.members (key nick) ∙ map_itself (find fold_cmp (key nick) c.members)
+        row_listed (λ f. f) c.members (key nick)
+            ∙ option_map_id (find fold_cmp (key nick) c.members)
 
 pub invited_is : (effects : List Effect) (nick name : List ℕ)
     → invited_to (room_after effects) nick name
@@ -71,7 +73,7 @@ invited_is effects nick name =
         (λ (c : ListedChannel). is_some (find fold_cmp (key nick) c.invited)) o false
     by_row None = refl
     by_row (Some c) = ap is_some (row_listed (λ u. u) c.invited (key nick)
-        ∙ map_itself (find fold_cmp (key nick) c.invited))
+        ∙ option_map_id (find fold_cmp (key nick) c.invited))
 
 pub part_is : {X : Type 0} (part : Channel → X) (effects : List Effect) (name : List ℕ)
     → of_channel part (room_after effects) name ≡ option_map part

@@ -1,7 +1,6 @@
 -- Two lists of entries in folded order: what is found of the one under the folds of the other, in
 -- turn, is all of the one that has a fold of the other. So the users under some names are just
 -- those that pass a test of their folds.
-use Rattle.std.specs.Prelude.{T}
 use Rattle.std.proofs.Common.{◌≡◌, ℕ, Bool, true, false, cond, Option, Some, None, List, [], ◌∷◌}
 use Rattle.std.proofs.Common.{◌++◌, refl, sym, ◌∙◌, ap, map, filter, is_some, option_to_list}
 use Rattle.std.proofs.Common.{nat_eq}
@@ -16,6 +15,7 @@ use Rattle.std.specs.Cmp.Lexicographic.{nat_list_cmp_total, pointwise, bytes_dec
 use Rattle.std.specs.FinMap.{entries, entries_sorted, values, find, is_sorted, get-entries}
 use Rattle.std.specs.FinMap.{slice_cmp-IsAntisymmetric, nat_cmp-IsAntisymmetric}
 use Rattle.std.specs.FinMap.Entries.{below_all}
+use Rattle.irc_names.specs.Lemmas.PlainFacts.{is_true}
 use Rattle.irc_names.specs.Fold.{key, same}
 use Rattle.irc_names.specs.Tables.{Table, fold_cmp, row}
 use Rattle.irc_names.specs.TableLaws.{same_fold, same_fold-refl, one_fold}
@@ -130,10 +130,6 @@ module _ {X : Type 0} (V : Type 0) (p : X → Bool) where
   in_turn (e ∷ us) sorted =
       let parts = and_parts _ _ sorted in one_more e us parts.0 (in_turn us parts.1)
 
-true_is : (b : Bool) → T b → b ≡ true
-true_is true h = refl
-true_is false h = absurd h
-
 module _ {V : Type 0} (users : Table User) (names : List (List ℕ × V))
     (rise : is_sorted fold_cmp names ≡ true) (p : User → Bool)
     (fails : (fold : List ℕ) (user : User) → row users fold ≡ Some user
@@ -143,7 +139,7 @@ module _ {V : Type 0} (users : Table User) (names : List (List ℕ × V))
   all_miss front [] is = tt
   all_miss front (e ∷ es) is =
       let sorted : is_sorted fold_cmp (front ++ e ∷ es) ≡ true = ap (is_sorted fold_cmp) is
-      ∙ true_is _ (entries_sorted users) in
+      ∙ is_true _ (entries_sorted users) in
       let at : row users e.0 ≡ Some e.1 =
       get-entries users e.0 ∙ ap (find fold_cmp e.0) (sym is)
       ∙ find-there order e.0 e.1 front es (sorted-below order e.0 e.1 front es sorted) in (
@@ -160,7 +156,7 @@ module _ {V : Type 0} (users : Table User) (names : List (List ℕ × V))
   covered : filter p (users_under users names) ≡ filter p (values users)
   covered =
       ap (filter p) (looked_up names)
-      ∙ in_turn V p (entries users) (true_is _ (entries_sorted users)) names rise
+      ∙ in_turn V p (entries users) (is_true _ (entries_sorted users)) names rise
       (all_miss [] (entries users) refl)
 
 -- each entry's user, if it has one, passes a test
@@ -196,7 +192,7 @@ all_there : {V : Type 0} (names : Table V) (front es : List (List ℕ × V))
 all_there names front [] is = tt
 all_there names front (e ∷ es) is =
     let sorted : is_sorted fold_cmp (front ++ e ∷ es) ≡ true = ap (is_sorted fold_cmp) is
-    ∙ true_is _ (entries_sorted names) in (
+    ∙ is_true _ (entries_sorted names) in (
       ap is_some
           (get-entries names e.0
           ∙ ap (find fold_cmp e.0) (sym is)
@@ -217,7 +213,7 @@ pub table_chooses : {V : Type 0} (users : Table User) (names : Table V) (p : Use
     → ((fold : List ℕ) (user : User) → row users fold ≡ Some user → is_some (row names fold)
     ≡ p user) → users_under users (entries names) ≡ filter p (values users)
 table_chooses users names p tells =
-    entries_choose users (entries names) (true_is _ (entries_sorted names)) p
+    entries_choose users (entries names) (is_true _ (entries_sorted names)) p
     (all_pass users names p tells (entries names) (all_there names [] (entries names) refl))
     (λ fold user at none. sym (tells fold user at) ∙ ap is_some (get-entries names fold) ∙ none)
 

@@ -3,6 +3,7 @@ use Rattle.std.proofs.Common.{◌≡◌, ℕ, Bool, true, false, cond, not, ◌|
 use Rattle.std.proofs.Common.{refl, sym, ◌∙◌, ap, is_some, unwrap_or, option_map}
 use Rattle.std.specs.Option.{option_and_then, option_map_or}
 use Rattle.std.specs.FinMap.{retain_keys}
+use Rattle.std.proofs.Math.Bool.{false≢true}
 use Rattle.irc_names.specs.Fold.{key, same}
 use Rattle.irc_names.specs.FoldLaws.{same-tells}
 use Rattle.irc_names.specs.Tables.{Table, row, alter, each, moved}
@@ -21,7 +22,7 @@ use Rattle.irc_effects.specs.declared.effect.Effect.TheVariants.{Invite, ChangeU
 use Rattle.irc_effects.specs.Room.{Room}
 use Rattle.irc_effects.specs.After.{after, alter_channel}
 use Rattle.irc_effects.specs.Invitations.{is_at, with_invited, of_home, HomeFollows}
-use Rattle.irc_effects.specs.Lemmas.Rows.{not_true, alter_same}
+use Rattle.irc_effects.specs.Lemmas.Rows.{alter_same}
 use Rattle.irc_effects.specs.Lemmas.InvitingOnly.{keeping, left_only, joined_only, changed_only}
 use Rattle.irc_effects.specs.Lemmas.InvitingOnly.{topic_only, invited_only, invited_elsewhere}
 use Rattle.irc_effects.specs.Lemmas.InvitingOnly.{without_only, renamed_only}
@@ -104,7 +105,7 @@ new_elsewhere home fold user users free q there = by_fold (same_fold q fold) ref
     by_fold : (b : Bool) → same_fold q fold ≡ b
         → is_at home (alter fold (λ _. Some user) users) q ≡ is_at home users q
     by_fold true one =
-        not_true (sym (ap is_some (ap (row users) (one_fold q fold one) ∙ free)) ∙ there)
+        absurd (false≢true (sym (ap is_some (ap (row users) (one_fold q fold one) ∙ free)) ∙ there))
     by_fold false apart = elsewhere home fold (λ _. Some user) users q apart
 
 -- a user's own mode is no matter
@@ -129,14 +130,14 @@ mode_same home fold change users q =
 
 none_there : {X : Type 0} (o : Option X) → not (is_some o) ≡ true → o ≡ None
 none_there None e = refl
-none_there (Some x) e = not_true e
+none_there (Some x) e = absurd (false≢true e)
 
 -- a nickname that may be taken is nobody's, or the taker's own
 own_or_free : (nick new : List ℕ) (there : Bool) → (not there || same nick new) ≡ true
     → there ≡ true → same_fold (key new) (key nick) ≡ true
 own_or_free nick new true may is = ap (same_fold (key new)) ((same-tells nick new).0 may)
     ∙ same_fold-refl (key new)
-own_or_free nick new false may is = not_true is
+own_or_free nick new false may is = absurd (false≢true is)
 
 home_invite : (home : List ℕ) (room : Room) (nick name : List ℕ) (b : Bool)
     → is_at home room.users (key nick) ≡ b → with_invited (is_at home room.users)

@@ -3,6 +3,8 @@ use Rattle.std.proofs.Common.{◌≡◌, ℕ, Bool, true, false, cond, Option, S
 use Rattle.std.proofs.Common.{◌∙◌, ap, subst, is_some, option_map}
 use Rattle.std.specs.Option.{option_and_then}
 use Rattle.std.specs.FinMap.{retain_keys}
+use Rattle.std.proofs.lemmas.Option.{same_Some, none-some}
+use Rattle.std.proofs.Math.Bool.{false≢true}
 use Rattle.irc_names.specs.Tables.{Table, row, each}
 use Rattle.irc_names.specs.TableLaws.{same_table, row-each, row-retain_keys, each-turned}
 use Rattle.irc_channels.specs.declared.channel.Channel.{Channel}
@@ -10,7 +12,6 @@ use Rattle.irc_effects.specs.Room.{Room, IsSoundRow}
 use Rattle.irc_effects.specs.After.{after}
 use Rattle.irc_effects.specs.Invitations.{is_at, inviting_only, of_home, HomeIsWellFormed}
 use Rattle.irc_effects.specs.Invitations.{HomeOfHome}
-use Rattle.irc_effects.specs.Lemmas.Rows.{not_none, not_true, same_some}
 use Rattle.irc_effects.specs.Lemmas.InvitingOnly.{keeping}
 
 pub row-of_home : (home : List ℕ) (room : Room) (fold : List ℕ) → row (of_home home room).channels
@@ -32,7 +33,7 @@ fewer_invited stays invited q there =
     by_test : (b : Bool) → is_some (cond b (row invited q) None) ≡ true
         → is_some (row invited q) ≡ true
     by_test true there = there
-    by_test false there = not_true there
+    by_test false there = absurd (false≢true there)
 
 pub home_is_well_formed : HomeIsWellFormed
 unfolding of_home
@@ -55,9 +56,9 @@ home_is_well_formed home room well = record {
     by_row : (fold : List ℕ) (o : Option Channel) → row room.channels fold ≡ o
         → (after : Channel) → option_map (inviting_only (is_at home room.users)) o ≡ Some after
         → IsSoundRow room.users fold after
-    by_row fold None at after is = not_none after is
+    by_row fold None at after is = absurd (none-some after is)
     by_row fold (Some before) at after is =
-        subst (IsSoundRow room.users fold) (same_some _ after is)
+        subst (IsSoundRow room.users fold) (same_Some _ after is)
         (kept_sound fold before (well.channels_sound fold before at))
 
 twice_kept : (stays : List ℕ → Bool) (invited : Table (Unit {0}))

@@ -2,6 +2,8 @@
 use Rattle.std.proofs.Common.{◌≡◌, ℕ, Bool, true, false, not, ◌&&◌, Option, Some, None, List, refl}
 use Rattle.std.proofs.Common.{ap, is_some, unwrap_or}
 use Rattle.std.specs.Option.{option_and_then, option_map_or}
+use Rattle.std.proofs.lemmas.Bool.{cond-true}
+use Rattle.std.proofs.Math.Bool.{false≢true}
 use Rattle.irc_names.specs.Fold.{key}
 use Rattle.irc_names.specs.Tables.{Table, row}
 use Rattle.irc_channels.specs.declared.channel.Channel.{Channel}
@@ -11,13 +13,13 @@ use Rattle.irc_effects.specs.declared.effect.Effect.TheVariants.{Kick}
 use Rattle.irc_effects.specs.Room.{Room}
 use Rattle.irc_effects.specs.After.{after, alter_channel}
 use Rattle.irc_effects.specs.Laws.{IdleChangesNothing}
-use Rattle.irc_effects.specs.Lemmas.Rows.{alter_same, not_true, if_true, if_not}
+use Rattle.irc_effects.specs.Lemmas.Rows.{alter_same, if_not}
 
 is_in : (nick : List ℕ) (op : Bool) (name : List ℕ) (channel : Option Channel)
     → option_map_or (has_member nick) channel false ≡ true
     → Some (joined nick op (unwrap_or channel (new_channel name))) ≡ channel
-is_in nick op name None there = not_true there
-is_in nick op name (Some channel) there = ap Some (if_true (has_member nick channel) _ _ there)
+is_in nick op name None there = absurd (false≢true there)
+is_in nick op name (Some channel) there = ap Some (cond-true (has_member nick channel) _ _ there)
 
 is_out : (nick : List ℕ) (channel : Option Channel)
     → (is_some channel && not (option_map_or (has_member nick) channel false)) ≡ true
@@ -40,4 +42,4 @@ idle_changes_nothing room (Part nick name text) idle =
     alter_channel_same name _ room (is_out (key nick) (row room.channels (key name)) idle)
 idle_changes_nothing room (Kick by name nick text) idle =
     alter_channel_same name _ room (is_out (key nick) (row room.channels (key name)) idle)
-idle_changes_nothing room other idle = not_true idle
+idle_changes_nothing room other idle = absurd (false≢true idle)

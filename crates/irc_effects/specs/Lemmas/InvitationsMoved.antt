@@ -3,6 +3,8 @@ use Rattle.std.proofs.Common.{◌≡◌, ℕ, Bool, true, false, cond, Option, S
 use Rattle.std.proofs.Common.{◌∙◌, ap, is_some}
 use Rattle.std.specs.Option.{option_map_or}
 use Rattle.std.specs.FinMap.{retain_keys}
+use Rattle.std.proofs.Math.Bool.{false≢true}
+use Rattle.std.proofs.lemmas.Option.{none-some}
 use Rattle.irc_names.specs.Fold.{same}
 use Rattle.irc_names.specs.Tables.{Table, row, moved}
 use Rattle.irc_names.specs.TableLaws.{same_fold, one_fold, same_table, row-moved, row-moved_none}
@@ -10,7 +12,6 @@ use Rattle.irc_names.specs.TableLaws.{row-retain_keys}
 use Rattle.irc_users.specs.declared.user.User.{User}
 use Rattle.irc_users.specs.UserTable.{is_home, with_nick}
 use Rattle.irc_effects.specs.Invitations.{is_at}
-use Rattle.irc_effects.specs.Lemmas.Rows.{not_none, not_true}
 
 -- Whoever is invited is a user, and nobody but the user itself has the new nickname.
 module _ (home old new nick : List ℕ) (users : Table User) (invited : Table (Unit {0}))
@@ -39,12 +40,13 @@ module _ (home old new nick : List ℕ) (users : Table User) (invited : Table (U
   -- nobody has the new nickname, or it is the old one
   nobody_new : same_fold new old ≡ false → (o : Option User) → row users new ≡ o → o ≡ None
   nobody_new apart None at = refl
-  nobody_new apart (Some user) at = not_true (sym apart ∙ free (ap is_some at))
+  nobody_new apart (Some user) at = absurd (false≢true (sym apart ∙ free (ap is_some at)))
 
   not_invited : (q : List ℕ) → row users q ≡ None → (o : Option (Unit {0})) → row invited q ≡ o
       → o ≡ None
   not_invited q nobody None at = refl
-  not_invited q nobody (Some u) at = not_true (sym (ap is_some nobody) ∙ known q (ap is_some at))
+  not_invited q nobody (Some u) at =
+      absurd (false≢true (sym (ap is_some nobody) ∙ known q (ap is_some at)))
 
   -- the user is not among the invited
   uninvited : row invited old ≡ None → (q : List ℕ)
@@ -60,16 +62,15 @@ module _ (home old new nick : List ℕ) (users : Table User) (invited : Table (U
       apart_old : (u : Unit {0}) → row invited q ≡ Some u → (b : Bool) → same_fold q old ≡ b
           → b ≡ false
       apart_old u at true one =
-          not_none u (sym none ∙ ap (row invited) (sym (one_fold q old one)) ∙ at)
+          absurd (none-some u (sym none ∙ ap (row invited) (sym (one_fold q old one)) ∙ at))
       apart_old u at false apart = refl
 
       apart_new : (u : Unit {0}) → row invited q ≡ Some u → (b : Bool) → same_fold q new ≡ b
           → b ≡ false
       apart_new u at true one =
-          not_true (sym (apart_old u at (same_fold q old) refl)
-          ∙ ap (λ f. same_fold f old) (one_fold q new one)
-          ∙ free (ap (λ f. is_some (row users f)) (sym (one_fold q new one))
-          ∙ known q (ap is_some at)))
+          absurd (false≢true (sym (apart_old u at (same_fold q old) refl)
+                  ∙ ap (λ f. same_fold f old) (one_fold q new one) ∙ free (ap (λ f.
+                      is_some (row users f)) (sym (one_fold q new one)) ∙ known q (ap is_some at))))
       apart_new u at false apart = refl
 
       still : (u : Unit {0}) → row invited q ≡ Some u → (o : Option User)
@@ -161,7 +162,8 @@ module _ (home old new nick : List ℕ) (users : Table User) (invited : Table (U
           → (o : Option User) → row users old ≡ o → cond (now_at q)
           (cond (same_fold q new) (Some u) (cond (same_fold q old) None (row invited q))) None
           ≡ row (moved old new (λ u. u) (retain_keys invited was_at)) q
-      by_user u there q None at = not_true (sym (ap is_some at) ∙ known old (ap is_some there))
+      by_user u there q None at =
+          absurd (false≢true (sym (ap is_some at) ∙ known old (ap is_some there)))
       by_user u there q (Some user) at = invited_on user at u there q
 
       by_invited : (q : List ℕ) (o : Option (Unit {0})) → row invited old ≡ o

@@ -4,6 +4,7 @@ use Rattle.std.proofs.Common.{List, [], ◌∷◌, refl, sym, ◌∙◌, subst, 
 use Rattle.std.specs.List.{AllByRecursion}
 use Rattle.std.specs.Option.{option_and_then, IfSome}
 use Rattle.std.specs.FinMap.{empty, get-empty, keys}
+use Rattle.std.proofs.lemmas.Option.{same_Some, none-some}
 use Rattle.irc_names.specs.Fold.{key}
 use Rattle.irc_names.specs.Names.{IsNick, IsChannel}
 use Rattle.irc_names.specs.Tables.{Table, fold_cmp, row, alter, each, moved}
@@ -28,7 +29,6 @@ use Rattle.irc_effects.specs.Sendable.{IsNameFor, IsSentWord, IsSentChange}
 use Rattle.irc_effects.specs.Seen.{names_member}
 use Rattle.irc_effects.specs.After.{after}
 use Rattle.irc_effects.specs.Laws.{NoRoomIsWithinLimits, AfterIsWithinLimits, SentKeepsLimits}
-use Rattle.irc_effects.specs.Lemmas.Rows.{not_none, same_some}
 use Rattle.irc_effects.specs.Lemmas.ModesWithin.{same_within, changes_within}
 
 -- ---- tables of which each row is something
@@ -37,7 +37,7 @@ abbrev pub AllRows : {X : Type 0} → (X → Type 0) → Table X → Type 0
 AllRows {X = X} P table = (fold : List ℕ) (x : X) → row table fold ≡ Some x → P x
 
 none_there : {X : Type 0} (P : X → Type 0) → AllRows P empty
-none_there P fold x is = not_none x (sym (get-empty fold_cmp fold) ∙ is)
+none_there P fold x is = absurd (none-some x (sym (get-empty fold_cmp fold) ∙ is))
 
 one_altered : {X : Type 0} (P : X → Type 0) (fold : List ℕ) (change : Option X → Option X)
     (table : Table X) → AllRows P table → ((x : X) → change (row table fold) ≡ Some x → P x)
@@ -58,7 +58,7 @@ there_altered {X = X} P fold change table all kept =
     one_altered P fold (option_and_then change) table all (by (row table fold) refl)
   where
     by : (o : Option X) → row table fold ≡ o → (x : X) → option_and_then change o ≡ Some x → P x
-    by None at x is = not_none x is
+    by None at x is = absurd (none-some x is)
     by (Some before) at x is = kept before x (all fold before at) is
 
 pub there_mapped : {X : Type 0} (P : X → Type 0) (fold : List ℕ) (change : X → X) (table : Table X)
@@ -68,9 +68,9 @@ there_mapped {X = X} P fold change table all kept =
     one_altered P fold (option_map change) table all (by (row table fold) refl)
   where
     by : (o : Option X) → row table fold ≡ o → (x : X) → option_map change o ≡ Some x → P x
-    by None at x is = not_none x is
+    by None at x is = absurd (none-some x is)
     by (Some before) at x is =
-        subst P (same_some (change before) x is) (kept before (all fold before at))
+        subst P (same_Some (change before) x is) (kept before (all fold before at))
 
 each_altered : {X : Type 0} (P : X → Type 0) (change : X → Option X) (table : Table X)
     → AllRows P table → ((before after : X) → P before → change before ≡ Some after → P after)
@@ -79,7 +79,7 @@ each_altered {X = X} P change table all kept q x is =
     by (row table q) refl (sym (row-each change table q) ∙ is)
   where
     by : (o : Option X) → row table q ≡ o → option_and_then change o ≡ Some x → P x
-    by None at is = not_none x is
+    by None at is = absurd (none-some x is)
     by (Some before) at is = kept before x (all q before at) is
 
 one_moved : {X : Type 0} (P : X → Type 0) (old new : List ℕ) (change : X → X) (table : Table X)
@@ -90,8 +90,8 @@ one_moved {X = X} P old new change table all kept q x is = by_row (row table old
     by_fold : (before : X) → row table old ≡ Some before → (b c : Bool)
         → cond b (Some (change before)) (cond c None (row table q)) ≡ Some x → P x
     by_fold before at true c is =
-        subst P (same_some (change before) x is) (kept before (all old before at))
-    by_fold before at false true is = not_none x is
+        subst P (same_Some (change before) x is) (kept before (all old before at))
+    by_fold before at false true is = absurd (none-some x is)
     by_fold before at false false is = all q x is
 
     by_row : (o : Option X) → row table old ≡ o → P x
@@ -141,8 +141,8 @@ while_within : (channel after : Channel) → IsChannelWithin channel
 while_within channel after within is = by (is_nil (keys channel.members)) is
   where
     by : (b : Bool) → (if b then None else Some channel) ≡ Some after → IsChannelWithin after
-    by true is = not_none after is
-    by false is = subst IsChannelWithin (same_some channel after is) within
+    by true is = absurd (none-some after is)
+    by false is = subst IsChannelWithin (same_Some channel after is) within
 
 left_within : (nick : List ℕ) (before after : Channel) → IsChannelWithin before
     → left nick before ≡ Some after → IsChannelWithin after
@@ -154,7 +154,7 @@ left_within nick before after within is = by (has_member nick before) is
     }) else Some before) ≡ Some after → IsChannelWithin after
     by true is = while_within (record before { members = alter nick (λ _. None) before.members })
         after (same_within before _ refl refl refl within) is
-    by false is = subst IsChannelWithin (same_some before after is) within
+    by false is = subst IsChannelWithin (same_Some before after is) within
 
 gone_within : (nick : List ℕ) (before after : Channel) → IsChannelWithin before
     → without_user nick before ≡ Some after → IsChannelWithin after
@@ -206,7 +206,7 @@ pub after_is_within_limits : AfterIsWithinLimits
 unfolding after
 after_is_within_limits room (AddUser user) within keeps = record {
   users = one_altered IsUserWithin (key user.nick) (λ _. Some user) room.users within.users
-      (λ x is. subst IsUserWithin (same_some user x is) keeps);
+      (λ x is. subst IsUserWithin (same_Some user x is) keeps);
   channels = within.channels;
 }
 after_is_within_limits room (Rename nick new) within keeps = record {
@@ -215,12 +215,12 @@ after_is_within_limits room (Rename nick new) within keeps = record {
   channels = each_altered IsChannelWithin
       (λ channel. Some (renamed (key nick) (key new) channel)) room.channels within.channels
       (λ before after is at. subst IsChannelWithin
-      (same_some (renamed (key nick) (key new) before) after at)
+      (same_Some (renamed (key nick) (key new) before) after at)
       (same_within before (renamed (key nick) (key new) before) refl refl refl is));
 }
 after_is_within_limits room (Quit nick text) within keeps = record {
   users = one_altered IsUserWithin (key nick) (λ _. None) room.users within.users
-      (λ x is. not_none x is);
+      (λ x is. absurd (none-some x is));
   channels = each_altered IsChannelWithin (without_user (key nick)) room.channels within.channels
       (gone_within (key nick));
 }
@@ -228,7 +228,7 @@ after_is_within_limits room (Join nick channel op) within keeps = record {
   users = within.users;
   channels = one_altered IsChannelWithin (key channel) (λ c. Some
       (joined (key nick) op (unwrap_or c (new_channel channel)))) room.channels within.channels
-      (λ x is. subst IsChannelWithin (same_some _ x is) (joined_within (key nick) op _
+      (λ x is. subst IsChannelWithin (same_Some _ x is) (joined_within (key nick) op _
       (found_within channel room.channels keeps within.channels)));
 }
 after_is_within_limits room (Part nick channel text) within keeps = record {

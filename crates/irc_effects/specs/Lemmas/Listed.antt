@@ -8,6 +8,7 @@ use Rattle.std.specs.FinMap.{from_entries, from_sorted, entries, keys, get-from_
 use Rattle.std.specs.FinMap.{get-from_sorted, entries-from_sorted, slice_cmp-IsAntisymmetric}
 use Rattle.std.specs.FinMap.{nat_cmp-IsAntisymmetric}
 use Rattle.std.specs.FinMap.Entries.{find, put, where_key, is_sorted, find-put, find-where_key}
+use Rattle.std.proofs.lemmas.Iterator.Adapters.{option_map_id}
 use Rattle.irc_names.specs.Tables.{Table, fold_cmp, row, alter, each, moved}
 use Rattle.irc_names.specs.TableLaws.{same_fold, same_fold-refl, row-alter, row-each, row-moved}
 use Rattle.irc_names.specs.TableLaws.{row-moved_none, same_table}
@@ -28,10 +29,6 @@ find_mapped f q (e ∷ es) = by_fold (same_fold q e.0) (find_mapped f q es)
         ≡ option_map f (cond b (Some e.1) (find fold_cmp q es))
     by_fold true rest = refl
     by_fold false rest = rest
-
-pub map_itself : {X : Type 0} (o : Option X) → option_map (λ x. x) o ≡ o
-map_itself None = refl
-map_itself (Some x) = refl
 
 pub row_listed : {X Y : Type 0} (f : X → Y) (es : List (List ℕ × X)) (q : List ℕ)
     → row (table_of f es) q ≡ option_map f (find fold_cmp q es)
@@ -145,7 +142,7 @@ moved_listed {X} old new change es = same_table _ _ (λ q. by_row q (find fold_c
   where
     plain : (es : List (List ℕ × X)) (q : List ℕ)
         → row (table_of (λ x. x) es) q ≡ find fold_cmp q es
-    plain es q = row_listed (λ x. x) es q ∙ map_itself (find fold_cmp q es)
+    plain es q = row_listed (λ x. x) es q ∙ option_map_id (find fold_cmp q es)
 
     by_row : (q : List ℕ) (o : Option X) → find fold_cmp old es ≡ o → row (moved old new change
         (table_of (λ x. x) es)) q ≡ row (table_of (λ x. x) (move_row o old new change es)) q

@@ -4,6 +4,8 @@ use Rattle.std.proofs.Common.{◌≡◌, ℕ, Bool, true, false, Option, Some, N
 use Rattle.std.proofs.Common.{sym, ◌∙◌, ap, is_some, fold, unwrap_or, if◌then◌else◌, option_map}
 use Rattle.std.specs.Option.{option_and_then}
 use Rattle.std.specs.FinMap.Entries.{find}
+use Rattle.std.proofs.lemmas.Iterator.Adapters.{option_map_id}
+use Rattle.irc_names.specs.Lemmas.PlainFacts.{is_some-map}
 use Rattle.irc_names.specs.Fold.{key}
 use Rattle.irc_names.specs.Greater.{bytes_cmp, greater}
 use Rattle.irc_names.specs.Tables.{Table, fold_cmp, alter}
@@ -26,8 +28,7 @@ use Rattle.irc_effects.specs.declared.effect.Effect.TheVariants.{Kick, ChangeMod
 use Rattle.irc_effects.specs.declared.effect.Effect.TheVariants.{Invite, ChangeUser}
 use Rattle.irc_effects.specs.Room.{Room}
 use Rattle.irc_effects.specs.After.{after, titled_by}
-use Rattle.irc_effects.specs.Lemmas.Rows.{is_some_map}
-use Rattle.irc_effects.specs.Lemmas.Listed.{map_itself, table_of, row_listed, alter_entry}
+use Rattle.irc_effects.specs.Lemmas.Listed.{table_of, row_listed, alter_entry}
 use Rattle.irc_effects.specs.Lemmas.Listed.{alter_listed, each_entry, each_listed, move_entry}
 use Rattle.irc_effects.specs.Lemmas.Listed.{moved_listed, keys_listed}
 
@@ -141,7 +142,7 @@ cond_of f b false x y v w is first second = ap (λ t. if t then x else y) is ∙
 
 itself : {X : Type 0} (change : Option X → Option X) (o : Option X)
     → change (option_map (λ x. x) o) ≡ option_map (λ x. x) (change o)
-itself change o = ap change (map_itself o) ∙ sym (map_itself (change o))
+itself change o = ap change (option_map_id o) ∙ sym (option_map_id (change o))
 
 pub altered_plain : {X : Type 0} (fold : List ℕ)
     (change : Option X → Option X) (es : List (List ℕ × X))
@@ -151,7 +152,7 @@ altered_plain fold change es = alter_listed (λ x. x) fold change change es (its
 pub member_listed : (nick : List ℕ) (c : ListedChannel)
     → has_member nick (channel_of c) ≡ lists_member nick c
 member_listed nick c = ap is_some (row_listed (λ f. f) c.members nick)
-    ∙ is_some_map (λ f. f) (find fold_cmp nick c.members)
+    ∙ is_some-map (λ f. f) (find fold_cmp nick c.members)
 
 while_listed : (c : ListedChannel)
     → while_members (channel_of c) ≡ option_map channel_of (list_while_members c)

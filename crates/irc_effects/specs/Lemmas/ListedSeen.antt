@@ -6,6 +6,8 @@ use Rattle.std.specs.Option.{option_map_or}
 use Rattle.std.specs.List.{list_any}
 use Rattle.std.specs.FinMap.{values}
 use Rattle.std.specs.FinMap.Entries.{find, is_sorted}
+use Rattle.std.proofs.lemmas.Iterator.Adapters.{option_map_id}
+use Rattle.irc_names.specs.Lemmas.PlainFacts.{is_some-map}
 use Rattle.irc_names.specs.Fold.{key, same}
 use Rattle.irc_names.specs.Tables.{fold_cmp, row}
 use Rattle.irc_line.specs.Messages.{Sender, named, text}
@@ -28,8 +30,7 @@ use Rattle.irc_effects.specs.Effects.{is_idle, is_member, has_channel}
 use Rattle.irc_effects.specs.Seen.{Showing, seen, shown_to, share_channel, stored_nick}
 use Rattle.irc_effects.specs.Seen.{stored_channel, from_nick, full_sender, line_from, names_member}
 use Rattle.irc_effects.specs.Seen.{change_parts}
-use Rattle.irc_effects.specs.Lemmas.Rows.{is_some_map}
-use Rattle.irc_effects.specs.Lemmas.Listed.{map_itself, row_listed, entries_listed}
+use Rattle.irc_effects.specs.Lemmas.Listed.{row_listed, entries_listed}
 use Rattle.irc_effects.specs.Lemmas.ListedRooms.{ListedChannel, ListedRoom, channel_of, room_of}
 use Rattle.irc_effects.specs.Lemmas.ListedRooms.{lists_member, member_listed}
 
@@ -161,7 +162,7 @@ list_seen room effect = seen_by (list_asked room) (map (λ e. e.1) room.users) e
 
 pub user_listed : (room : ListedRoom) (q : List ℕ)
     → row (room_of room).users q ≡ find fold_cmp q room.users
-user_listed room q = row_listed (λ u. u) room.users q ∙ map_itself (find fold_cmp q room.users)
+user_listed room q = row_listed (λ u. u) room.users q ∙ option_map_id (find fold_cmp q room.users)
 
 pub channel_listed : (room : ListedRoom) (q : List ℕ)
     → row (room_of room).channels q ≡ option_map channel_of (find fold_cmp q room.channels)
@@ -213,7 +214,7 @@ share_asked room order one other =
 answers_listed : (room : ListedRoom) → IsInOrder room → asked_of (room_of room) ≡ list_asked room
 answers_listed room order = λ i. record {
   channel_there = λ channel. (ap is_some (channel_listed room (key channel))
-      ∙ is_some_map channel_of (find fold_cmp (key channel) room.channels)) i;
+      ∙ is_some-map channel_of (find fold_cmp (key channel) room.channels)) i;
   member = λ nick channel. member_asked room nick channel i;
   share = λ one other. share_asked room order one other i;
   nick = λ nick. option_map_or (λ (user : User). user.nick) (user_listed room (key nick) i) nick;

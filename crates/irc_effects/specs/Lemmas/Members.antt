@@ -4,6 +4,7 @@ use Rattle.std.proofs.Common.{Option, Some, None, List, [], ◌∷◌, refl, sym
 use Rattle.std.proofs.Common.{unwrap_or}
 use Rattle.std.specs.Option.{option_and_then, option_map_or}
 use Rattle.std.specs.FinMap.{keys, get-empty}
+use Rattle.std.proofs.Math.Bool.{and-false}
 use Rattle.irc_names.specs.Tables.{Table, fold_cmp, row, alter, moved}
 use Rattle.irc_names.specs.TableLaws.{same_fold, one_fold, row-alter, row-moved, row-moved_none}
 use Rattle.irc_channels.specs.declared.channel.Channel.{Channel}
@@ -18,10 +19,6 @@ use Rattle.irc_effects.specs.Lemmas.ModesKept.{letter_folk}
 -- whether a user is a member of a channel, if there is one
 abbrev pub is_member_of : List ℕ → Option Channel → Bool
 is_member_of nick o = option_map_or (has_member nick) o false
-
-pub and_false : (b : Bool) → (b && false) ≡ false
-and_false true = refl
-and_false false = refl
 
 member_joined : (nick : List ℕ) (op : Bool) (channel : Channel) (n : List ℕ)
     → has_member n (joined nick op channel) ≡ (same_fold n nick || has_member n channel)
@@ -102,7 +99,7 @@ member_left nick channel n = by_test (has_member nick channel) refl
 pub left_said : (nick : List ℕ) (o : Option Channel) (n : List ℕ) → is_member_of n
     (option_and_then (left nick) o) ≡ (not (same_fold n nick) && is_member_of n o)
 left_said nick (Some channel) n = member_left nick channel n
-left_said nick None n = sym (and_false (not (same_fold n nick)))
+left_said nick None n = sym (and-false (not (same_fold n nick)))
 
 pub member_changed_modes : (changes : List ModeChange) (n : List ℕ) (channel : Channel)
     → has_member n (all_changed changes channel) ≡ has_member n channel

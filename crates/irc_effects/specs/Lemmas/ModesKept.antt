@@ -1,6 +1,7 @@
 -- Changes of modes keep a channel's name, who is invited, and who its members are.
 use Rattle.std.proofs.Common.{◌≡◌, ℕ, Bool, true, false, cond, Option, Some, None, List, [], ◌∷◌}
 use Rattle.std.proofs.Common.{refl, sym, ◌∙◌, ap, is_some, option_map}
+use Rattle.irc_names.specs.Lemmas.PlainFacts.{is_some-map}
 use Rattle.irc_names.specs.Fold.{key}
 use Rattle.irc_names.specs.Tables.{Table, row, alter}
 use Rattle.irc_names.specs.TableLaws.{same_fold, one_fold, row-alter}
@@ -12,7 +13,7 @@ use Rattle.irc_modes.specs.declared.modes.ModeLetter.TheVariants as letter
 use Rattle.irc_channels.specs.declared.channel.Channel.{Channel}
 use Rattle.irc_channels.specs.Channels.{member_changed, letter_changed, changed, all_changed}
 use Rattle.irc_effects.specs.Room.{IsSoundRow}
-use Rattle.irc_effects.specs.Lemmas.Rows.{some_key, some_row, is_some_map}
+use Rattle.irc_effects.specs.Lemmas.Rows.{some_key, some_row}
 
 -- two channels with one name, the same invited, and the same members, whatever their flags
 pub record HasSameFolk (before after : Channel) : Type 0 where
@@ -29,7 +30,7 @@ same_rows fold f table q =
     by_fold : (b : Bool) → same_fold q fold ≡ b
         → is_some (cond b (option_map f (row table fold)) (row table q)) ≡ is_some (row table q)
     by_fold true one =
-        is_some_map f (row table fold) ∙ ap (λ p. is_some (row table p)) (sym (one_fold q fold one))
+        is_some-map f (row table fold) ∙ ap (λ p. is_some (row table p)) (sym (one_fold q fold one))
     by_fold false two = refl
 
 folk : (channel : Channel) → HasSameFolk channel channel

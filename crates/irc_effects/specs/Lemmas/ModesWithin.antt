@@ -7,6 +7,8 @@ use Rattle.std.specs.Option.{IfSome}
 use Rattle.std.specs.Cmp.{first_so, second_so}
 use Rattle.std.proofs.lemmas.Bool.Decides.{nat_tests}
 use Rattle.std.proofs.lemmas.List.Folds.{list_all-append}
+use Rattle.std.proofs.lemmas.Bool.{and_from}
+use Rattle.irc_names.specs.Lemmas.PlainFacts.{list_all-filter}
 use Rattle.irc_line.specs.Carried.{is_carried}
 use Rattle.irc_names.specs.Names.{IsChannel, is_key, is_ban_mask, IsKey}
 use Rattle.irc_modes.specs.Bans.{before, rises}
@@ -24,21 +26,6 @@ use Rattle.irc_channels.specs.Channels.{modes_changed, letter_changed, changed, 
 use Rattle.irc_modes.specs.Lemmas.BanPlaces.{with_rises, rises-filter}
 use Rattle.irc_effects.specs.Limits.{IsCarriedText, IsChannelWithin, IsBanCarried}
 
-both : (a b : Bool) → a ≡ true → b ≡ true → (a && b) ≡ true
-both a b p q = cc
-
--- what all of a list is, all that is kept of it is
-all_filter : {X : Type 0} (p q : X → Bool) (xs : List X) → list_all p xs ≡ true
-    → list_all p (filter q xs) ≡ true
-all_filter p q [] all = refl
-all_filter p q (x ∷ xs) all = by (q x) (first_so (p x) (list_all p xs) all)
-    (all_filter p q xs (second_so (p x) (list_all p xs) all))
-  where
-    by : (test : Bool) → p x ≡ true → list_all p (filter q xs) ≡ true
-        → list_all p (cond test (x ∷ filter q xs) (filter q xs)) ≡ true
-    by true first rest = both (p x) (list_all p (filter q xs)) first rest
-    by false first rest = rest
-
 -- ---- bans
 
 -- masks that a line can carry, in order
@@ -51,11 +38,11 @@ all_with : (p : List ℕ → Bool) (mask : List ℕ) (bans : List (List ℕ)) �
     → list_all p bans ≡ true → list_all p (with_ban mask bans) ≡ true
 all_with p mask bans is all =
     list_all-append p (filter (λ ban. before ban mask) bans) (mask ∷ filter (before mask) bans)
-    ∙ both (list_all p (filter (λ ban. before ban mask) bans))
+    ∙ and_from (list_all p (filter (λ ban. before ban mask) bans))
     (list_all p (mask ∷ filter (before mask) bans))
-    (all_filter p (λ ban. before ban mask) bans all)
-    (both (p mask) (list_all p (filter (before mask) bans)) is
-    (all_filter p (before mask) bans all))
+    (list_all-filter p (λ ban. before ban mask) bans all)
+    (and_from (p mask) (list_all p (filter (before mask) bans)) is
+    (list_all-filter p (before mask) bans all))
 
 ban_kept : (plus : Bool) (mask : List ℕ) (bans : List (List ℕ)) → is_ban_mask mask ≡ true
     → is_carried mask ≡ true → AreBans bans → AreBans (ban_changed plus mask bans)
@@ -66,8 +53,8 @@ ban_kept true mask bans is carried all = record {
 }
 ban_kept false mask bans is carried all = record {
   in_order = rises-filter _ bans all.in_order;
-  masks = all_filter is_ban_mask _ bans all.masks;
-  carried = all_filter is_carried _ bans all.carried;
+  masks = list_all-filter is_ban_mask _ bans all.masks;
+  carried = list_all-filter is_carried _ bans all.carried;
 }
 
 bans_kept : (plus : Bool) (word : Option (List ℕ)) (bans : List (List ℕ))

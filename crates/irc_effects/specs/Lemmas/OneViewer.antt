@@ -5,6 +5,8 @@ use Rattle.std.proofs.Common.{option_to_list}
 use Rattle.std.specs.List.{AllByRecursion, cons_option}
 use Rattle.std.specs.Option.{option_and_then}
 use Rattle.std.specs.FinMap.{entries, entries_sorted, values, find, is_sorted, get-entries}
+use Rattle.std.proofs.Math.Facts.{and_yes}
+use Rattle.std.proofs.lemmas.Option.{none-some}
 use Rattle.irc_names.specs.Fold.{key, same}
 use Rattle.irc_names.specs.FoldLaws.{same-ties, same-equivalence}
 use Rattle.irc_names.specs.Tables.{fold_cmp, row}
@@ -13,8 +15,7 @@ use Rattle.irc_users.specs.declared.user.User.{User}
 use Rattle.irc_effects.specs.declared.effect.Effect.{Effect}
 use Rattle.irc_effects.specs.Room.{Room, IsWellFormed}
 use Rattle.irc_effects.specs.Seen.{Showing, seen, shown_to, sees, shown_line}
-use Rattle.irc_effects.specs.Lemmas.Rows.{not_none}
-use Rattle.irc_effects.specs.Lemmas.ViewerLaws.{both_true, below_none, IsNamed, table_named, IsOwn}
+use Rattle.irc_effects.specs.Lemmas.ViewerLaws.{below_none, IsNamed, table_named, IsOwn}
 use Rattle.irc_effects.specs.Lemmas.ViewerLaws.{own_showing}
 use Rattle.irc_effects.specs.Effects.{is_idle}
 use Rattle.irc_effects.specs.Viewers.{line_for, shows_to, OneViewersLines}
@@ -50,7 +51,7 @@ nothing_shown viewer shown own (e ∷ es) named none =
     by_fold : (find fold_cmp (key viewer) es ≡ None → to_one viewer shown es ≡ []) → (b : Bool)
         → same_fold (key viewer) e.0 ≡ b → cond b (Some e.1) (find fold_cmp (key viewer) es) ≡ None
         → to_one viewer shown (e ∷ es) ≡ []
-    by_fold rest true one found = not_none e.1 (sym found)
+    by_fold rest true one found = absurd (none-some e.1 (sym found))
     by_fold rest false two found = one_skipped viewer shown own e es named.0 two ∙ rest found
 
 chosen : (viewer : List ℕ) (shown : User → Option Showing) → IsOwn shown
@@ -59,14 +60,14 @@ chosen : (viewer : List ℕ) (shown : User → Option Showing) → IsOwn shown
 unfolding to_one
 chosen viewer shown own [] named rise = refl
 chosen viewer shown own (e ∷ es) named rise =
-    by_fold (chosen viewer shown own es named.1 (both_true _ _ rise).1)
+    by_fold (chosen viewer shown own es named.1 (and_yes _ _ rise).1)
     (same_fold (key viewer) e.0) refl
   where
     nobody_later : same_fold (key viewer) e.0 ≡ true → to_one viewer shown es ≡ []
     nobody_later one =
         nothing_shown viewer shown own es named.1
         (ap (λ f. find fold_cmp f es) (one_fold (key viewer) e.0 one)
-        ∙ below_none e.0 es (both_true _ _ rise).0)
+        ∙ below_none e.0 es (and_yes _ _ rise).0)
 
     here : same_fold (key viewer) e.0 ≡ true → (o : Option Showing)
         → shown e.1 ≡ o → filter (λ (t : Showing). same viewer t.viewer)

@@ -1,38 +1,21 @@
 -- What a table answers at a fold after a change of one row, and when it has a row at all.
 use Rattle.std.proofs.Common.{◌≡◌, ℕ, Bool, true, false, cond, not, ◌||◌, if◌then◌else◌, Option}
-use Rattle.std.proofs.Common.{Some, None, List, [], ◌∷◌, refl, sym, ◌∙◌, ap, is_some, length}
+use Rattle.std.proofs.Common.{None, List, [], ◌∷◌, refl, sym, ◌∙◌, ap, is_some, length}
 use Rattle.std.proofs.Common.{Result, Ok, Err}
 use Rattle.std.proofs.lemmas.List.{length-map}
 use Rattle.std.specs.Prelude.{IfOk}
 use Rattle.std.specs.List.{list_any}
-use Rattle.std.specs.Option.{option_map}
 use Rattle.std.specs.FinMap.{entries, keys, values}
+use Rattle.std.proofs.Math.Bool.{false≢true}
 use Rattle.irc_names.specs.Tables.{Table, row, alter}
 use Rattle.irc_names.specs.TableLaws.{same_fold, same_fold-refl, one_fold, row-alter, row-keys}
 use Rattle.irc_names.specs.TableLaws.{same_table}
 use Rattle.irc_users.specs.declared.user.User.{User}
 use Rattle.irc_modes.specs.Modes.{is_nil}
 
-pub not_true : {A : Type 0} → false ≡ true → A
-not_true e = cc
-
-pub not_none : {A X : Type 0} (x : X) → None ≡ Some x → A
-not_none x e = cc
-
-pub if_true : {X : Type 0} (b : Bool) (x y : X) → b ≡ true → (if b then x else y) ≡ x
-if_true true x y e = refl
-if_true false x y e = not_true e
-
 pub if_not : {X : Type 0} (b : Bool) (x y : X) → not b ≡ true → (if b then x else y) ≡ y
-if_not true x y e = not_true e
+if_not true x y e = absurd (false≢true e)
 if_not false x y e = refl
-
-pub same_some : {X : Type 0} (x y : X) → Some x ≡ Some y → x ≡ y
-same_some x y e = cc
-
-pub is_some_map : {X Y : Type 0} (f : X → Y) (o : Option X) → is_some (option_map f o) ≡ is_some o
-is_some_map f None = refl
-is_some_map f (Some x) = refl
 
 nil_has_none : (p : List ℕ → Bool) (folds : List (List ℕ)) → list_any p folds ≡ true
     → is_nil folds ≡ false
@@ -46,7 +29,7 @@ some_key table q there = nil_has_none (same_fold q) (keys table) (row-keys table
 
 first_found : (folds : List (List ℕ)) → is_nil folds ≡ false
     → (q : List ℕ) × (list_any (same_fold q) folds ≡ true)
-first_found [] some = not_true (sym some)
+first_found [] some = absurd (false≢true (sym some))
 first_found (fold ∷ folds) some =
     (fold, ap (λ b. b || list_any (same_fold fold) folds) (same_fold-refl fold))
 
@@ -65,7 +48,8 @@ no_row table none = by_test (is_nil (keys table)) refl
     by_test : (b : Bool) → is_nil (keys table) ≡ b → b ≡ true
     by_test true e = refl
     by_test false e =
-        let found = some_row table e in not_true (sym (ap is_some (none found.0)) ∙ found.1)
+        let found =
+            some_row table e in absurd (false≢true (sym (ap is_some (none found.0)) ∙ found.1))
 
 -- a row that is changed into itself leaves the table as it is
 pub alter_same : {X : Type 0} (fold : List ℕ) (change : Option X → Option X) (table : Table X)

@@ -3,6 +3,7 @@ use Rattle.std.proofs.Common.{◌≡◌, ℕ, Bool, true, false, cond, Option, S
 use Rattle.std.proofs.Common.{refl, sym, ◌∙◌, ap, subst, is_some, option_map, length, ◌≤◌}
 use Rattle.std.specs.List.{AllByRecursion}
 use Rattle.std.specs.Option.{IfSome, option_map_or}
+use Rattle.std.proofs.lemmas.Option.{same_Some, none-some}
 use Rattle.irc_line.specs.Limits.{max_line}
 use Rattle.irc_line.specs.Messages.{joined_text}
 use Rattle.irc_names.specs.Fold.{key}
@@ -28,7 +29,6 @@ use Rattle.irc_effects.specs.Sendable.{IsSendable}
 use Rattle.irc_effects.specs.Invitations.{is_at, inviting_only}
 use Rattle.irc_effects.specs.OtherInvitations.{uninviting, AreAlike}
 use Rattle.irc_effects.specs.SentAlike.{AlikeSendAlike, AlikeKeepLimits, HomeKnowsItsInvited}
-use Rattle.irc_effects.specs.Lemmas.Rows.{not_none, same_some}
 use Rattle.irc_effects.specs.Lemmas.HomeRooms.{row-of_home}
 
 abbrev name_of : Channel → List ℕ
@@ -62,7 +62,7 @@ module _ (room other : Room) (alike : AreAlike room other) where
   named_for name None (Some channel) same named = cc
   named_for name (Some channel) None same named = cc
   named_for name (Some one) (Some two) same named =
-      ap name_of (sym (same_some (uninviting one) (uninviting two) same)) ∙ named
+      ap name_of (sym (same_Some (uninviting one) (uninviting two) same)) ∙ named
 
   channel_named : (name : List ℕ) → IsChannelOrNew room name → IsChannelOrNew other name
   channel_named name = named_for name (row room.channels (key name)) (row other.channels (key name))
@@ -147,10 +147,10 @@ module _ (room other : Room) (alike : AreAlike room other) where
   channel_within : (channel : Channel) (found : Option Channel)
       → ((before : Channel) → found ≡ Some before → IsChannelWithin before)
       → option_map uninviting found ≡ Some (uninviting channel) → IsChannelWithin channel
-  channel_within channel None within same = not_none (uninviting channel) same
+  channel_within channel None within same = absurd (none-some (uninviting channel) same)
   channel_within channel (Some before) within same =
       of_uninvited channel
-      (subst IsChannelWithin (same_some (uninviting before) (uninviting channel) same)
+      (subst IsChannelWithin (same_Some (uninviting before) (uninviting channel) same)
       (as_uninvited before (within before refl)))
 
   within_limits : IsWithinLimits room → IsWithinLimits other

@@ -3,6 +3,8 @@
 use Rattle.std.proofs.Common.{◌≡◌, ℕ, Bool, true, false, cond, Option, Some, None, List, refl, sym}
 use Rattle.std.proofs.Common.{◌∙◌, ap, subst, is_some, if◌then◌else◌}
 use Rattle.std.specs.FinMap.{empty, keys, get-empty}
+use Rattle.std.proofs.lemmas.Option.{same_Some, none-some}
+use Rattle.std.proofs.Math.Bool.{false≢true}
 use Rattle.irc_names.specs.Fold.{key}
 use Rattle.irc_names.specs.Tables.{Table, fold_cmp, row, alter, moved}
 use Rattle.irc_names.specs.TableLaws.{same_fold, same_fold-refl, one_fold, row-alter}
@@ -13,7 +15,7 @@ use Rattle.irc_channels.specs.Channels.{has_member, new_channel, joined, left, w
 use Rattle.irc_channels.specs.Channels.{while_members, invited_too, with_topic, renamed}
 use Rattle.irc_modes.specs.Modes.{is_nil}
 use Rattle.irc_effects.specs.Room.{IsSoundRow}
-use Rattle.irc_effects.specs.Lemmas.Rows.{some_key, some_row, not_none, not_true, same_some}
+use Rattle.irc_effects.specs.Lemmas.Rows.{some_key, some_row}
 
 -- each fold that stands in one table stands in another
 pub record IsWithin {X Y : Type 0} (small : Table X) (large : Table Y) : Type 0 where
@@ -21,7 +23,8 @@ pub record IsWithin {X Y : Type 0} (small : Table X) (large : Table Y) : Type 0 
 
 pub empty_within : {X Y : Type 0} (table : Table Y) → IsWithin (empty {X = X} {R = fold_cmp}) table
 empty_within {X} table =
-    record { at = λ q there. not_true (sym (ap is_some (get-empty {X = X} fold_cmp q)) ∙ there) }
+    record { at = λ q there.
+          absurd (false≢true (sym (ap is_some (get-empty {X = X} fold_cmp q)) ∙ there)) }
 
 -- a change of one row that keeps the table within another
 pub alter_within : {X Y : Type 0} (fold : List ℕ) (change : Option X → Option X) (small : Table X)
@@ -153,8 +156,8 @@ while_sound users fold channel after names = by_test (is_nil (keys channel.membe
   where
     by_test : (b : Bool) → is_nil (keys channel.members) ≡ b
         → (if b then None else Some channel) ≡ Some after → IsSoundRow users fold after
-    by_test true some is = not_none after is
-    by_test false some is = subst (IsSoundRow users fold) (same_some channel after is)
+    by_test true some is = absurd (none-some after is)
+    by_test false some is = subst (IsSoundRow users fold) (same_Some channel after is)
         (sound users fold channel names some)
 
 -- a row whose member leaves
@@ -169,10 +172,10 @@ left_sound users fold nick channel after row_sound = by_test (has_member nick ch
         (record channel { members = alter nick (λ _. None) channel.members }) after (record {
           named = row_sound.named;
           members = alter_within nick (λ _. None) channel.members users
-              (record { at = row_sound.members_known }) (λ e. not_true e);
+              (record { at = row_sound.members_known }) (λ e. absurd (false≢true e));
           invited = record { at = row_sound.invited_known };
         }) is
-    by_test false is = subst (IsSoundRow users fold) (same_some channel after is) row_sound
+    by_test false is = subst (IsSoundRow users fold) (same_Some channel after is) row_sound
 
 -- a row when a user is gone
 pub without_sound : (users : Table User) (fold nick : List ℕ) (channel after : Channel)
@@ -222,7 +225,8 @@ joined_sound users fold nick op channel names there = by_test (has_member nick c
       members_known = (alter_within nick (λ _. Some (record { op = op; voice = false }))
           channel.members users names.members (λ e. there)).at;
       invited_known =
-          (alter_within nick (λ _. None) channel.invited users names.invited (λ e. not_true e)).at;
+          (alter_within nick (λ _. None) channel.invited users names.invited
+                (λ e. absurd (false≢true e))).at;
       some_member = some_key _ nick (ap is_some
           (row-alter_same nick (λ _. Some (record { op = op; voice = false })) channel.members));
     }

@@ -1,5 +1,5 @@
 -- Viewers stand in folded order, and one that is shown something stands there once.
-use Rattle.std.proofs.Common.{◌≡◌, ℕ, Bool, true, false, cond, ◌&&◌, T, Option, Some, None, List}
+use Rattle.std.proofs.Common.{◌≡◌, ℕ, Bool, true, false, cond, T, Option, Some, None, List}
 use Rattle.std.proofs.Common.{[], ◌∷◌, refl, sym, ◌∙◌, ap, subst, map, filter_map, if◌then◌else◌}
 use Rattle.std.proofs.Common.{option_map}
 use Rattle.std.specs.declared.cmp.Ordering.{Ordering}
@@ -9,6 +9,8 @@ use Rattle.std.specs.List.{AllByRecursion, cons_option}
 use Rattle.std.specs.List.Sorted.{IsStrictlySortedBy}
 use Rattle.std.specs.FinMap.{entries, entries_sorted, values, find, is_sorted, get-entries}
 use Rattle.std.specs.FinMap.Entries.{below_all}
+use Rattle.std.proofs.lemmas.Option.{same_Some, none-some}
+use Rattle.std.proofs.Math.Facts.{and_yes}
 use Rattle.irc_names.specs.Fold.{key, name_cmp}
 use Rattle.irc_names.specs.Tables.{Table, fold_cmp, row}
 use Rattle.irc_names.specs.TableLaws.{same_fold, same_fold-refl, one_fold}
@@ -18,11 +20,6 @@ use Rattle.irc_effects.specs.Room.{Room}
 use Rattle.irc_effects.specs.Effects.{is_idle}
 use Rattle.irc_effects.specs.Seen.{Showing, seen, shown_to, shown_line, sees}
 use Rattle.irc_effects.specs.Laws.{EachViewerOnce}
-use Rattle.irc_effects.specs.Lemmas.Rows.{same_some, not_none}
-
-pub both_true : (b c : Bool) → T (b && c) → T b × T c
-both_true true c h = (tt, h)
-both_true false c h = absurd h
 
 -- a fold below all those of a list is none of them
 less_apart : (o : Ordering) → T (is_lt o) → is_eq o ≡ false
@@ -39,7 +36,7 @@ pub below_none : (q : List ℕ) (es : List (List ℕ × User)) → T (below_all 
     → find fold_cmp q es ≡ None
 below_none q [] h = refl
 below_none q (e ∷ es) h =
-    let parts = both_true _ _ h in
+    let parts = and_yes _ _ h in
     ap (λ b. cond b (Some e.1) (find fold_cmp q es)) (less_apart (fold_cmp q e.0) parts.0)
     ∙ below_none q es parts.1
 
@@ -52,7 +49,7 @@ all_named : (es : List (List ℕ × User)) → T (is_sorted fold_cmp es)
     → AllByRecursion IsNamed es
 all_named [] rise named = tt
 all_named (e ∷ es) rise named =
-    let parts = both_true _ _ rise in (
+    let parts = and_yes _ _ rise in (
       named e.0 e.1 (ap (λ b. cond b (Some e.1) (find fold_cmp e.0 es)) (same_fold-refl e.0)),
       all_named es parts.1
           (λ q user is. named q user (later q user parts.0 is (same_fold q e.0) refl)),
@@ -86,7 +83,7 @@ below_shown : (shown : User → Option Showing) → IsOwn shown
 unfolding viewers
 below_shown shown own x [] named below = tt
 below_shown shown own x (e ∷ es) named below =
-    let parts = both_true _ _ below in
+    let parts = and_yes _ _ below in
     by_shown (shown e.1) refl parts.0 (below_shown shown own x es named.1 parts.1)
   where
     by_shown : (o : Option Showing) → shown e.1 ≡ o → T (is_lt (fold_cmp x e.0))
@@ -103,7 +100,7 @@ shown_rise : (shown : User → Option Showing) → IsOwn shown → (es : List (L
 unfolding viewers IsStrictlySortedBy
 shown_rise shown own [] named rise = tt
 shown_rise shown own (e ∷ es) named rise =
-    let parts = both_true _ _ rise in
+    let parts = and_yes _ _ rise in
     by_shown (shown e.1) refl (below_shown shown own e.0 es named.1 parts.0)
     (shown_rise shown own es named.1 parts.1)
   where
@@ -121,10 +118,10 @@ shown_rise shown own (e ∷ es) named rise =
 own_line : (b : Bool) (user : User) (line : Option (List ℕ)) (showing : Showing)
     → (if b then option_map (λ l. record { viewer = user.nick; line = l }) line else None)
     ≡ Some showing → showing.viewer ≡ user.nick
-own_line true user None showing is = not_none showing is
+own_line true user None showing is = absurd (none-some showing is)
 own_line true user (Some l) showing is = sym (ap (λ (s : Showing). s.viewer)
-    (same_some (record { viewer = user.nick; line = l }) showing is))
-own_line false user line showing is = not_none showing is
+    (same_Some (record { viewer = user.nick; line = l }) showing is))
+own_line false user line showing is = absurd (none-some showing is)
 
 pub own_showing : (room : Room) (effect : Effect) → IsOwn (shown_to room effect)
 own_showing room effect = record {

@@ -1,8 +1,10 @@
 -- A possible effect leaves a room well formed: one lemma for each effect.
-use Rattle.std.proofs.Common.{◌≡◌, ℕ, Bool, true, false, cond, ◌&&◌, Option, Some, None, List, refl}
+use Rattle.std.proofs.Common.{◌≡◌, ℕ, Bool, true, false, cond, Option, Some, None, List, refl}
 use Rattle.std.proofs.Common.{sym, ◌∙◌, ap, subst, is_some, unwrap_or, option_map}
 use Rattle.std.specs.Option.{option_and_then}
 use Rattle.std.specs.FinMap.{get-empty}
+use Rattle.std.proofs.lemmas.Option.{same_Some, none-some}
+use Rattle.std.specs.Cmp.{first_so, second_so}
 use Rattle.irc_names.specs.Fold.{key}
 use Rattle.irc_names.specs.Tables.{Table, fold_cmp, row, alter, each, moved}
 use Rattle.irc_names.specs.TableLaws.{same_fold, one_fold, row-alter, row-each, row-moved}
@@ -18,7 +20,6 @@ use Rattle.irc_effects.specs.declared.effect.Effect.TheVariants.{Invite, ChangeU
 use Rattle.irc_effects.specs.Room.{Room, IsWellFormed, IsSoundRow}
 use Rattle.irc_effects.specs.After.{after, alter_user, alter_channel}
 use Rattle.irc_effects.specs.Laws.{AfterIsWellFormed, NoRoomIsWellFormed}
-use Rattle.irc_effects.specs.Lemmas.Rows.{not_none, same_some}
 use Rattle.irc_effects.specs.Lemmas.SoundRows.{IsWithin, IsKnown, known, sound_more, left_sound}
 use Rattle.irc_effects.specs.Lemmas.SoundRows.{without_sound, renamed_sound, joined_sound}
 use Rattle.irc_effects.specs.Lemmas.SoundRows.{new_known, invited_sound, topic_sound}
@@ -55,7 +56,7 @@ there_altered room name change well kept = channel_altered room name (option_and
   where
     by_row : (o : Option Channel) → row room.channels (key name) ≡ o → (after : Channel)
         → option_and_then change o ≡ Some after → IsSoundRow room.users (key name) after
-    by_row None at after is = not_none after is
+    by_row None at after is = absurd (none-some after is)
     by_row (Some before) at after is =
         kept before after (well.channels_sound (key name) before at) is
 
@@ -68,9 +69,9 @@ there_mapped room name change well kept =
   where
     by_row : (o : Option Channel) → row room.channels (key name) ≡ o → (after : Channel)
         → option_map change o ≡ Some after → IsSoundRow room.users (key name) after
-    by_row None at after is = not_none after is
+    by_row None at after is = absurd (none-some after is)
     by_row (Some before) at after is =
-        subst (IsSoundRow room.users (key name)) (same_some (change before) after is)
+        subst (IsSoundRow room.users (key name)) (same_Some (change before) after is)
         (kept before (well.channels_sound (key name) before at))
 
 -- users and each channel's row are changed
@@ -87,7 +88,7 @@ all_altered room users change well named kept = record {
   where
     by_row : (fold : List ℕ) (o : Option Channel) → row room.channels fold ≡ o → (after : Channel)
         → option_and_then change o ≡ Some after → IsSoundRow users fold after
-    by_row fold None at after is = not_none after is
+    by_row fold None at after is = absurd (none-some after is)
     by_row fold (Some before) at after is =
         kept fold before after (well.channels_sound fold before at) is
 
@@ -129,7 +130,7 @@ with_user : (room : Room) (user : User) → IsWellFormed room
     → IsWellFormed (alter_user user.nick (λ _. Some user) room)
 with_user room user well =
     user_altered room user.nick (λ _. Some user) well
-    (λ other is. ap (λ (u : User). key u.nick) (sym (same_some user other is)))
+    (λ other is. ap (λ (u : User). key u.nick) (sym (same_Some user other is)))
     (put_within (key user.nick) user room.users)
 
 with_mode : (room : Room) (nick : List ℕ) (change : UserChange) → IsWellFormed room
@@ -141,9 +142,9 @@ with_mode room nick change well =
   where
     by_row : (o : Option User) → row room.users (key nick) ≡ o → (user : User)
         → option_map (with_change change) o ≡ Some user → key user.nick ≡ key nick
-    by_row None at user is = not_none user is
+    by_row None at user is = absurd (none-some user is)
     by_row (Some before) at user is =
-        ap (λ (u : User). key u.nick) (sym (same_some (with_change change before) user is))
+        ap (λ (u : User). key u.nick) (sym (same_Some (with_change change before) user is))
         ∙ well.users_named (key nick) before at
 
 -- who is left when one user quits
@@ -153,7 +154,7 @@ quit_named users nick named fold user is =
     by_fold (same_fold fold nick) (sym (row-alter nick (λ _. None) users fold) ∙ is)
   where
     by_fold : (b : Bool) → cond b None (row users fold) ≡ Some user → key user.nick ≡ fold
-    by_fold true is = not_none user is
+    by_fold true is = absurd (none-some user is)
     by_fold false is = named fold user is
 
 without_user_well : (room : Room) (nick : List ℕ) → IsWellFormed room
@@ -174,8 +175,8 @@ moved_named users old new named there fold user is = by_row (row users old) refl
     by_fold : (x : User) (b c : Bool) → same_fold fold (key new) ≡ b → cond b
         (Some (with_nick new x)) (cond c None (row users fold)) ≡ Some user → key user.nick ≡ fold
     by_fold x true c one is = ap (λ (u : User). key u.nick)
-        (sym (same_some (with_nick new x) user is)) ∙ sym (one_fold fold (key new) one)
-    by_fold x false true one is = not_none user is
+        (sym (same_Some (with_nick new x) user is)) ∙ sym (one_fold fold (key new) one)
+    by_fold x false true one is = absurd (none-some user is)
     by_fold x false false one is = named fold user is
 
     by_row : (o : Option User) → row users old ≡ o → is_some o ≡ true → key user.nick ≡ fold
@@ -195,7 +196,7 @@ renamed_well room old new well there =
     (moved_named room.users old new well.users_named there)
     (λ fold before after sound is.
     subst (IsSoundRow (moved old (key new) (with_nick new) room.users) fold)
-    (same_some (renamed old (key new) before) after is)
+    (same_Some (renamed old (key new) before) after is)
     (renamed_sound room.users fold old (key new) (with_nick new) before sound there))
 
 -- a user joins a channel, which is made where it is not there
@@ -204,7 +205,7 @@ joined_well : (room : Room) (nick name : List ℕ) (op : Bool)
     (alter_channel name (λ c. Some (joined nick op (unwrap_or c (new_channel name)))) room)
 joined_well room nick name op well there =
     channel_altered room name (λ c. Some (joined nick op (unwrap_or c (new_channel name)))) well
-    (λ after is. subst (IsSoundRow room.users (key name)) (same_some _ after is)
+    (λ after is. subst (IsSoundRow room.users (key name)) (same_Some _ after is)
     (joined_sound room.users (key name) nick op _
     (found (row room.channels (key name)) refl) there))
   where
@@ -214,29 +215,21 @@ joined_well room nick name op well there =
     found (Some channel) at =
         known room.users (key name) channel (well.channels_sound (key name) channel at)
 
--- the tests of one user, and of the second of two
-one_there : (b : Bool) → (b && true) ≡ true → b ≡ true
-one_there true e = refl
-one_there false e = e
-
-second_there : (b c : Bool) → (b && (c && true)) ≡ true → c ≡ true
-second_there true c e = one_there c e
-second_there false c e = cc
-
 pub no_room_is_well_formed : NoRoomIsWellFormed
 no_room_is_well_formed = record {
-  users_named = λ nick user is. not_none user (sym (get-empty fold_cmp nick) ∙ is);
-  channels_sound = λ fold channel is. not_none channel (sym (get-empty fold_cmp fold) ∙ is);
+  users_named = λ nick user is. absurd (none-some user (sym (get-empty fold_cmp nick) ∙ is));
+  channels_sound =
+      λ fold channel is. absurd (none-some channel (sym (get-empty fold_cmp fold) ∙ is));
 }
 
 pub after_is_well_formed : AfterIsWellFormed
 unfolding after
 after_is_well_formed room (AddUser user) well possible = with_user room user well
 after_is_well_formed room (Rename nick new) well possible =
-    renamed_well room (key nick) new well (one_there _ possible.users_there)
+    renamed_well room (key nick) new well (first_so _ true possible.users_there)
 after_is_well_formed room (Quit nick text) well possible = without_user_well room (key nick) well
 after_is_well_formed room (Join nick name op) well possible =
-    joined_well room (key nick) name op well (one_there _ possible.users_there)
+    joined_well room (key nick) name op well (first_so _ true possible.users_there)
 after_is_well_formed room (Part nick name text) well possible =
     there_altered room name (left (key nick)) well
     (λ before after sound is. left_sound room.users (key name) (key nick) before after sound is)
@@ -253,6 +246,6 @@ after_is_well_formed room (Say by notice target text) well possible = well
 after_is_well_formed room (Invite by nick name) well possible =
     there_mapped room name (invited_too (key nick)) well
     (λ before sound. invited_sound room.users (key name) (key nick) before sound
-    (second_there _ _ possible.users_there))
+    (first_so _ true (second_so _ _ possible.users_there)))
 after_is_well_formed room (ChangeUser nick change) well possible =
     with_mode room nick change well

@@ -6,6 +6,9 @@ use Rattle.std.proofs.Common.{◌∙◌, ap, subst, append_assoc, append-nil, ar
 use Rattle.std.proofs.lemmas.Grind.{flat_map-append}
 use Rattle.std.proofs.lemmas.List.Folds.{list_any-append}
 use Rattle.std.proofs.lemmas.List.Sums.{sum_by-append}
+use Rattle.std.proofs.Math.Bool.{or-false}
+use Rattle.std.proofs.lemmas.Bool.{or_left}
+use Rattle.irc_names.specs.Lemmas.PlainFacts.{and_neither, and_not}
 use Rattle.irc_outbox.specs.Calls.{Call, written, written_by, times_closed, is_close_of}
 use Rattle.irc_batch.specs.Batches.{Sent, end_of, end_of_link, line_on, line_to}
 use Rattle.irc_engine.specs.declared.kind.ConnectionKind.{ConnectionKind}
@@ -96,14 +99,8 @@ module _ (conn : ℕ) (a b : List Call) (x y : List Sent) where
       ≡ (still && not (is_closed_by conn y)) → now ≡ (is_open && not (is_closed_by conn (x ++ y)))
   open_on is_open still now is then =
       then ∙ ap (λ t. t && not (is_closed_by conn y)) is
-      ∙ both is_open (is_closed_by conn x) (is_closed_by conn y)
+      ∙ and_neither is_open (is_closed_by conn x) (is_closed_by conn y)
       ∙ ap (λ t. is_open && not t) (sym (is_closed_by-append conn x y))
-    where
-      both : (o c d : Bool) → ((o && not c) && not d) ≡ (o && not (c || d))
-      both true true d = refl
-      both true false d = refl
-      both false c d = refl
-
   never_on : times_closed conn a ≡ 0 → (n : ℕ) → times_closed conn b ≡ n
       → times_closed conn (a ++ b) ≡ n
   never_on none n is = times_closed-append conn a b ∙ ap (λ m. m + times_closed conn b) none
@@ -142,9 +139,6 @@ module _ (conn : ℕ) (a b : List Call) (x y : List Sent) where
     why = why_then old mid other.left one other.why;
   }
 
-  either : (s t : Bool) → s ≡ true → (s || t) ≡ true
-  either s t is = ap (λ u. u || t) is
-
   closed_still : (o c d : Bool) → (o && not c) ≡ false → (o && not (c || d)) ≡ false
   closed_still true true d is = refl
   closed_still true false d is = cc is
@@ -158,7 +152,7 @@ module _ (conn : ℕ) (a b : List Call) (x y : List Sent) where
       ∙ closed_still (is_some old.framer) (is_closed_by conn x) (is_closed_by conn y) closed)
       (ap (λ t. left ++ bytes_owed t conn y) closed ∙ append-nil left ∙ none)
   why_still old left (cut_off cut) =
-      cut_off (is_cut_off-append conn a b ∙ either (is_cut_off conn a) (is_cut_off conn b) cut)
+      cut_off (is_cut_off-append conn a b ∙ or_left (is_cut_off conn a) (is_cut_off conn b) cut)
   why_still old left (overflowed more) =
       let rest = bytes_owed (is_some old.framer && not (is_closed_by conn x)) conn y in
       overflowed (omega (arith, more, length-append {A = ℕ} left rest))
@@ -196,10 +190,6 @@ module _ (conn : ℕ) (a b : List Call) (x y : List Sent) where
   lost_both false true false d = refl
   lost_both false false c d = refl
 
-  none_lost : (t : Bool) → (t || false) ≡ t
-  none_lost true = refl
-  none_lost false = refl
-
   lost_late : (l o c d n : Bool) → (((l || (o && false)) && not c) || ((o && not c) && n))
       && not d ≡ ((l || (o && n)) && not (c || d))
   lost_late true true true d n = refl
@@ -221,7 +211,7 @@ module _ (conn : ℕ) (a b : List Call) (x y : List Sent) where
       (is_closed_by conn x || is_closed_by conn y) new
   lost_on None None new was between one other is =
       ap (λ t. (t || false) && not (is_closed_by conn y)) is
-      ∙ ap (λ t. t && not (is_closed_by conn y)) (none_lost _)
+      ∙ ap (λ t. t && not (is_closed_by conn y)) (or-false _)
       ∙ lost_both was false (is_closed_by conn x) (is_closed_by conn y)
   lost_on None (Some mid) new was between one other is = absurd one
   lost_on (Some old) (Some mid) new was between one other is =
@@ -232,7 +222,7 @@ module _ (conn : ℕ) (a b : List Call) (x y : List Sent) where
       (not (is_some new))
   lost_on (Some old) None None was between one other is =
       ap (λ t. (t || false) && not (is_closed_by conn y)) is
-      ∙ ap (λ t. t && not (is_closed_by conn y)) (none_lost _)
+      ∙ ap (λ t. t && not (is_closed_by conn y)) (or-false _)
       ∙ lost_both was (is_some old.framer && true) (is_closed_by conn x) (is_closed_by conn y)
   lost_on (Some old) None (Some new) was between one other is = absurd other
 
@@ -275,10 +265,6 @@ pub nothing_owed : (is_open : Bool) (conn : ℕ) (outs : List Sent) → answers 
 nothing_owed true conn outs none = none
 nothing_owed false conn outs none = refl
 
-pub still : (t c : Bool) → c ≡ false → t ≡ (t && not c)
-still true c is = ap not (sym is)
-still false c is = refl
-
 pub untouched_fate : (conn : ℕ) (calls : List Call) (outs : List Sent) → IsElsewhere conn calls outs
     → (connection : Option Connection) → Fate conn connection calls outs connection
 untouched_fate conn calls outs apart None = apart.silent
@@ -289,7 +275,7 @@ untouched_fate conn calls outs apart (Some connection) = record {
       ∙ append-nil connection.outbox.bytes
       ∙ ap (λ xs. xs ++ connection.outbox.bytes) (sym apart.silent.nothing);
   same_room = refl;
-  still_open = still (is_some connection.framer) (is_closed_by conn outs) apart.never_closed;
+  still_open = and_not (is_some connection.framer) (is_closed_by conn outs) apart.never_closed;
   never = apart.silent.never;
   never_cut = apart.never_cut;
 }

@@ -4,6 +4,7 @@ use Rattle.std.proofs.Common.{◌≡◌, ℕ, Bool, true, false, not, ◌&&◌, 
 use Rattle.std.proofs.Common.{List, [], ◌∷◌, ◌++◌, refl, sym, ◌∙◌, ap, append_assoc}
 use Rattle.std.proofs.lemmas.Bool.{eqb-true}
 use Rattle.std.proofs.lemmas.List.Folds.{list_any-append}
+use Rattle.std.proofs.Math.Bool.{or-false}
 use Rattle.arrayvec.specs.ArrayVec.{ArrayVec}
 use Rattle.irc_batch.specs.declared.close_reason.CloseReason.{CloseReason}
 use Rattle.irc_batch.specs.Batches.{Sent, end_of_link}
@@ -18,7 +19,7 @@ use Rattle.irc_engine.specs.Lemmas.Stills.{still_by_event}
 
 -- ---- booleans
 
-shut_by : (a t x : Bool)
+pub shut_by : (a t x : Bool)
     → ((a || false) && not (t || x)) ≡ ((a || false) && not (x || (t || false)))
 shut_by a true true = refl
 shut_by a true false = refl
@@ -29,11 +30,7 @@ as_ended : (a x : Bool) → ((a || false) && not x) ≡ ((a || false) && not (x 
 as_ended a true = refl
 as_ended a false = refl
 
-or_false : (b : Bool) → (b || false) ≡ b
-or_false true = refl
-or_false false = refl
-
-ended_as : (x t : Bool) → (x || (t || false)) ≡ true → (t ≡ false → x ≡ true)
+pub ended_as : (x t : Bool) → (x || (t || false)) ≡ true → (t ≡ false → x ≡ true)
 ended_as true t ended none = refl
 ended_as false true ended none = cc none
 ended_as false false ended none = cc ended
@@ -73,7 +70,7 @@ module _ (link : ℕ) (line : ArrayVec ℕ) where
         ∙ ap (λ t. (has_link was q || false) && not t)
         (sym (list_any-append (ends_link q) x (end_of_link link reason ∷ [])));
     clients_were_there = λ q ended. down.clients_were_there q
-        (sym (or_false (is_client_ended q x))
+        (sym (or-false (is_client_ended q x))
         ∙ sym (list_any-append (ends_client q) x (end_of_link link reason ∷ [])) ∙ ended);
     links_were_there = λ q ended. by q (nat_eq link q) refl
         (sym (list_any-append (ends_link q) x (end_of_link link reason ∷ [])) ∙ ended);
@@ -82,7 +79,7 @@ module _ (link : ℕ) (line : ArrayVec ℕ) where
       by : (q : ℕ) (t : Bool) → nat_eq link q ≡ t
           → (is_link_ended q x || (nat_eq link q || false)) ≡ true
           → (has_link was q || false) ≡ true
-      by q true one ended = or_false (has_link was q)
+      by q true one ended = or-false (has_link was q)
           ∙ ap (λ p. has_link was p) (sym (eqb-true link q one)) ∙ there
       by q false two ended = down.links_were_there q
           (ended_as (is_link_ended q x) (nat_eq link q) ended two)

@@ -5,6 +5,8 @@ use Rattle.std.proofs.Common.{◌≡◌, ℕ, Bool, true, false, not, ◌&&◌, 
 use Rattle.std.proofs.Common.{List, [], ◌++◌, refl, sym, ◌∙◌, ap, append_assoc, append-nil}
 use Rattle.std.proofs.Common.{subst, IfErr, IsErrAnd, OnOk, Result, Ok, Err}
 use Rattle.std.proofs.lemmas.List.Folds.{list_any-append}
+use Rattle.std.proofs.Math.Bool.{or-false, and-true}
+use Rattle.irc_names.specs.Lemmas.PlainFacts.{and_neither}
 use Rattle.irc_batch.specs.Batches.{Sent}
 use Rattle.irc_stage.specs.View.{View}
 use Rattle.irc_server.specs.declared.event.Event.{Event}
@@ -19,22 +21,9 @@ use Rattle.irc_engine.specs.Machines.{IsConnectedBy, IsRefusal, IsStillConnected
 
 -- ---- booleans
 
-still : (b : Bool) → b ≡ (b && true)
-still true = refl
-still false = refl
-
 there_plain : (a x : Bool) → ((a || false) && not x) ≡ (a && not x)
 there_plain true x = refl
 there_plain false x = refl
-
-and_twice : (a x y : Bool) → ((a && not x) && not y) ≡ (a && not (x || y))
-and_twice true true y = refl
-and_twice true false y = refl
-and_twice false x y = refl
-
-or_false : (b : Bool) → (b || false) ≡ b
-or_false true = refl
-or_false false = refl
 
 was_before : (a x y m : Bool) → m ≡ (a && not x) → (x ≡ true → a ≡ true)
     → (y ≡ true → m ≡ true) → (x || y) ≡ true → a ≡ true
@@ -54,8 +43,8 @@ nobody_goes server outs = record {
     behind,
     is,
     record {
-      clients = λ conn. still (has_client behind conn);
-      links = λ q. still (has_link behind q);
+      clients = λ conn. sym (and-true (has_client behind conn));
+      links = λ q. sym (and-true (has_link behind q));
       clients_were_there = λ conn ended. cc ended;
       links_were_there = λ q ended. cc ended;
     },
@@ -67,11 +56,11 @@ still_twice : (was mid new : View) (x y : List Sent) → AreStillConnected was x
 still_twice was mid new x y one other = record {
   clients = λ q. other.clients q
       ∙ ap (λ t. t && not (is_client_ended q y)) (one.clients q)
-      ∙ and_twice (has_client was q) (is_client_ended q x) (is_client_ended q y)
+      ∙ and_neither (has_client was q) (is_client_ended q x) (is_client_ended q y)
       ∙ ap (λ t. has_client was q && not t) (sym (list_any-append (ends_client q) x y));
   links = λ q. other.links q
       ∙ ap (λ t. t && not (is_link_ended q y)) (one.links q)
-      ∙ and_twice (has_link was q) (is_link_ended q x) (is_link_ended q y)
+      ∙ and_neither (has_link was q) (is_link_ended q x) (is_link_ended q y)
       ∙ ap (λ t. has_link was q && not t) (sym (list_any-append (ends_link q) x y));
   clients_were_there = λ q ended. was_before (has_client was q) (is_client_ended q x)
       (is_client_ended q y) (has_client mid q) (one.clients q) (one.clients_were_there q)
@@ -111,9 +100,10 @@ quiet_more : (server : View) (more : List Sent)
     → ((q : ℕ) → is_client_ended q more ≡ false) → ((q : ℕ) → is_link_ended q more ≡ false)
     → AreStillConnected server more server
 quiet_more server more no_client no_link = record {
-  clients = λ q. still (has_client server q)
+  clients = λ q. sym (and-true (has_client server q))
       ∙ ap (λ t. has_client server q && not t) (sym (no_client q));
-  links = λ q. still (has_link server q) ∙ ap (λ t. has_link server q && not t) (sym (no_link q));
+  links = λ q. sym (and-true (has_link server q))
+      ∙ ap (λ t. has_link server q && not t) (sym (no_link q));
   clients_were_there = λ q ended. cc (sym (no_client q) ∙ ended);
   links_were_there = λ q ended. cc (sym (no_link q) ∙ ended);
 }
@@ -152,7 +142,7 @@ module _ (event : Event) (no_comer : (q : ℕ) → client_comes q (read_event_of
   no_other_link : (was : View) (q : ℕ)
       → (has_link was q || link_comes q (read_event_of event)) ≡ has_link was q
   no_other_link was q =
-      ap (λ t. has_link was q || t) (none_begins q) ∙ or_false (has_link was q)
+      ap (λ t. has_link was q || t) (none_begins q) ∙ or-false (has_link was q)
 
   still_by : (was new : View) (x : List Sent) → AreConnectedBy was (read_event_of event) x new
       → AreStillConnected was x new

@@ -8,6 +8,7 @@ use Rattle.std.proofs.lemmas.Bool.Decides.{Decides-eqb}
 use Rattle.std.specs.Cmp.Lexicographic.{bytes_decides, pointwise}
 use Rattle.std.specs.List.{find, list_all, list_any}
 use Rattle.std.specs.Option.{option_map_or, IfSome}
+use Rattle.std.proofs.Math.Bool.{or-true}
 use Rattle.irc_line.specs.Messages.{message_of}
 use Rattle.irc_names.specs.Fold.{key}
 use Rattle.irc_names.specs.Tables.{row}
@@ -87,14 +88,10 @@ passes_in : {X : Type 0} (p q : X → Bool) (xs : List X) (x : X) → find p xs 
 passes_in p q [] x is so = cc is
 passes_in p q (y ∷ xs) x is so = by (p y) is (λ later. passes_in p q xs x later so)
   where
-    or_true : (b : Bool) → (b || true) ≡ true
-    or_true true = refl
-    or_true false = refl
-
     by : (b : Bool) → cond b (Some y) (find p xs) ≡ Some x
         → (find p xs ≡ Some x → list_any q xs ≡ true) → (q y || list_any q xs) ≡ true
     by true found rest = ap (λ b. b || list_any q xs) (ap q (same_some y x found) ∙ so)
-    by false found rest = ap (λ b. q y || b) (rest found) ∙ or_true (q y)
+    by false found rest = ap (λ b. q y || b) (rest found) ∙ or-true (q y)
 
 none_any : {X : Type 0} (p : X → Bool) (xs : List X) → find p xs ≡ None → list_any p xs ≡ false
 none_any p [] none = refl

@@ -11,6 +11,8 @@ use Rattle.std.specs.FinMap.Entries.{below_all}
 use Rattle.std.specs.List.{cons_option, flat_map, list_any}
 use Rattle.std.specs.Option.{option_map_or}
 use Rattle.std.specs.Ordering.{nat_cmp}
+use Rattle.std.proofs.Math.Seq.{take-append_seam}
+use Rattle.irc_names.specs.Lemmas.PlainFacts.{is_true}
 use Rattle.irc_batch.specs.Batches.{Sent}
 use Rattle.irc_line.specs.Messages.{Written, line_text, text}
 use Rattle.irc_room.specs.effect.Effect.{Effect}
@@ -29,23 +31,15 @@ use Rattle.irc_stage.specs.Lemmas.Numbers.{one_number, same_number, same_number-
 use Rattle.irc_follow.specs.Says.{body, line_on_link, lines_on}
 use Rattle.irc_follow.specs.Lemmas.ToldClients as told_to
 
-told : (b : Bool) → T b → b ≡ true
-told true h = refl
-told false h = absurd h
-
 none_behind : {X : Type 0} (e : ℕ × X) (es : List (ℕ × X)) → T (below_all nat_cmp e.0 es)
     → find nat_cmp e.0 es ≡ None
 none_behind e es below =
-    find-above nat_cmp_total e.0 es (sym (above-is nat_cmp_total e.0 es) ∙ told _ below)
+    find-above nat_cmp_total e.0 es (sym (above-is nat_cmp_total e.0 es) ∙ is_true _ below)
 
 -- a line on a link, without its CR LF
 pub bare : (parts : Written) → body (text parts) ≡ line_text parts
 bare parts = by (line_text parts)
   where
-    front : (xs ys : List ℕ) → take (length xs) (xs ++ ys) ≡ xs
-    front [] ys = refl
-    front (x ∷ xs) ys = ap (λ l. x ∷ l) (front xs ys)
-
     less : (xs : List ℕ) → length (xs ++ 13 ∷ 10 ∷ []) - 2 ≡ length xs
     less [] = refl
     less (x ∷ xs) = let rest = less xs in let more =
@@ -59,7 +53,7 @@ bare parts = by (line_text parts)
         two m n is big = let r = big.1 in omega arith
 
     by : (xs : List ℕ) → take (length (xs ++ 13 ∷ 10 ∷ []) - 2) (xs ++ 13 ∷ 10 ∷ []) ≡ xs
-    by xs = ap (λ n. take n (xs ++ 13 ∷ 10 ∷ [])) (less xs) ∙ front xs (13 ∷ 10 ∷ [])
+    by xs = ap (λ n. take n (xs ++ 13 ∷ 10 ∷ [])) (less xs) ∙ take-append_seam xs (13 ∷ 10 ∷ [])
 
 ends_by_one : (effect : Effect) (s : Served) → (changed_if effect s).state.ends ≡ s.state.ends
 ends_by_one effect s = by (counts s.state effect)

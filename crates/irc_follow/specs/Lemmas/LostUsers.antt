@@ -4,6 +4,7 @@ use Rattle.std.proofs.Common.{◌∷◌, refl, sym, ◌∙◌, ap}
 use Rattle.std.specs.Cmp.Lexicographic.{bytes_decides}
 use Rattle.std.specs.List.{AllByRecursion}
 use Rattle.std.specs.Option.{option_map_or}
+use Rattle.std.proofs.lemmas.Bool.{or_right}
 use Rattle.irc_names.specs.Fold.{key}
 use Rattle.irc_names.specs.Tables.{row}
 use Rattle.irc_names.specs.TableLaws.{same_fold, same_fold-refl, row-alter}
@@ -31,13 +32,8 @@ all_in [] all more = tt
 all_in (user ∷ users) all more = (
   more (key user.nick)
       (ap (λ b. b || among users (key user.nick)) (same_fold-refl (key user.nick))),
-  all_in users all (λ q is. more q (or_later (same_fold q (key user.nick)) (among users q) is)),
+  all_in users all (λ q is. more q (or_right (same_fold q (key user.nick)) (among users q) is)),
 )
-  where
-    or_later : (b c : Bool) → c ≡ true → (b || c) ≡ true
-    or_later true c is = refl
-    or_later false c is = is
-
 each_of : (name : Name) (room : Room) → IsWellFormed room → (users : List User)
     → AllByRecursion (λ (user : User). among (users_at name room) (key user.nick) ≡ true) users
     → AllByRecursion (IsOf name room) users

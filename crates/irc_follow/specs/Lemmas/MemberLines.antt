@@ -1,14 +1,15 @@
 -- The words of an NJOIN are read as the members that they were written of; and who becomes a member
 -- in one room does so in another that is alike.
 use Rattle.std.proofs.Common.{◌≡◌, ℕ, Bool, true, false, not, ◌&&◌, ◌||◌, List, [], ◌∷◌, ◌++◌, map}
-use Rattle.std.proofs.Common.{nat_eq, refl, sym, ◌∙◌, ap, subst, eqb-true, append-nil}
+use Rattle.std.proofs.Common.{nat_eq, refl, ◌∙◌, ap, subst, append-nil}
 use Rattle.std.proofs.Common.{if◌then◌else◌}
-use Rattle.std.proofs.lemmas.Bool.{and_from}
+use Rattle.std.proofs.lemmas.Bool.{and_from, or_from}
 use Rattle.std.proofs.lemmas.List.Folds.{list_any-append}
 use Rattle.std.proofs.lemmas.List.Splits.{slice_split-cons_no, slice_split-cons_yes}
 use Rattle.std.specs.Char.{is_ascii_alphabetic}
 use Rattle.std.specs.Cmp.{first_so, second_so}
 use Rattle.std.specs.List.{flat_map, list_all, onto_first, slice_split, AllByRecursion}
+use Rattle.irc_names.specs.Lemmas.PlainFacts.{nat_eq-unlike}
 use Rattle.irc_line.specs.Bytes.{has_nul, is_nul}
 use Rattle.irc_names.specs.Fold.{key}
 use Rattle.irc_names.specs.Names.{IsNick, is_nick, is_nick_byte, is_special}
@@ -33,22 +34,13 @@ use Rattle.irc_follow.specs.Lemmas.DeedEffects.{AllQuiet, members_quiet, users_s
 
 -- ---- bytes of a nickname
 
--- a byte that a rule takes is none that it refuses
-pub other_byte : (rule : ℕ → Bool) (refused byte : ℕ) → rule refused ≡ false → rule byte ≡ true
-    → nat_eq byte refused ≡ false
-other_byte rule refused byte out is = by (nat_eq byte refused) refl
-  where
-    by : (b : Bool) → nat_eq byte refused ≡ b → b ≡ false
-    by true same = sym is ∙ ap rule (eqb-true byte refused same) ∙ out
-    by false other = refl
-
 abbrev NoComma : List ℕ → Type 0
 NoComma bytes = AllByRecursion (λ byte. is_comma byte ≡ false) bytes
 
 rest_no_comma : (bytes : List ℕ) → list_all is_nick_byte bytes ≡ true → NoComma bytes
 rest_no_comma [] all = tt
 rest_no_comma (byte ∷ bytes) all = (
-  other_byte is_nick_byte 0x2C byte refl (first_so (is_nick_byte byte) _ all),
+  nat_eq-unlike is_nick_byte 0x2C byte refl (first_so (is_nick_byte byte) _ all),
   rest_no_comma bytes (second_so (is_nick_byte byte) _ all),
 )
 
@@ -68,11 +60,11 @@ bare byte rest is =
     let starts = first_so (is_first byte) (list_all is_nick_byte rest) parts in
     record {
       no_comma = (
-        other_byte is_first 0x2C byte refl starts,
+        nat_eq-unlike is_first 0x2C byte refl starts,
         rest_no_comma rest (second_so (is_first byte) (list_all is_nick_byte rest) parts),
       );
-      no_at = other_byte is_first at_mark byte refl starts;
-      no_plus = other_byte is_first plus_mark byte refl starts;
+      no_at = nat_eq-unlike is_first at_mark byte refl starts;
+      no_plus = nat_eq-unlike is_first plus_mark byte refl starts;
     }
 
 some_byte : {A : Type 0} → IsNick [] → A
@@ -157,15 +149,12 @@ members_back member members all = ap (map member_of) (split_words member members
 abbrev HaveNoNul : List (List ℕ × Flags) → Type 0
 HaveNoNul members = AllByRecursion (λ (member : List ℕ × Flags). has_nul member.0 ≡ false) members
 
-neither : (a b : Bool) → a ≡ false → b ≡ false → (a || b) ≡ false
-neither a b p q = cc
-
 more_no_nul : (members : List (List ℕ × Flags)) → HaveNoNul members
     → has_nul (more_text members) ≡ false
 more_no_nul [] all = refl
 more_no_nul (member ∷ members) all =
     list_any-append is_nul (0x2C ∷ member_text member) (more_text members)
-    ∙ neither (has_nul (member_text member)) (has_nul (more_text members))
+    ∙ or_from (has_nul (member_text member)) (has_nul (more_text members))
     (word_no_nul member.1.op member.1.voice member.0 all.0) (more_no_nul members all.1)
 
 pub members_no_nul : (members : List (List ℕ × Flags)) → HaveNoNul members
@@ -173,7 +162,7 @@ pub members_no_nul : (members : List (List ℕ × Flags)) → HaveNoNul members
 members_no_nul [] all = refl
 members_no_nul (member ∷ members) all =
     list_any-append is_nul (member_text member) (more_text members)
-    ∙ neither (has_nul (member_text member)) (has_nul (more_text members))
+    ∙ or_from (has_nul (member_text member)) (has_nul (more_text members))
     (word_no_nul member.1.op member.1.voice member.0 all.0) (more_no_nul members all.1)
 
 pub all_nicks : (members : List (List ℕ × Flags)) → AreNicks members

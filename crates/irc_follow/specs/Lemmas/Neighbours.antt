@@ -1,7 +1,7 @@
 -- A server, the neighbour by whose line it is told of a deed, and another neighbour, which takes
 -- its lines: the ends of the links between them, which servers are behind them, what a line is
 -- heard as, and what is told on to all.
-use Rattle.std.proofs.Common.{◌≡◌, ◌≢◌, ℕ, Bool, true, false, ◌&&◌, Option, Some, None, Ok, List}
+use Rattle.std.proofs.Common.{◌≡◌, ◌≢◌, ℕ, Bool, true, false, Option, Some, None, Ok, List}
 use Rattle.std.proofs.Common.{[], ◌∷◌, ◌++◌, nat_eq, refl, sym, ◌∙◌, ap, map, filter, option_map}
 use Rattle.std.proofs.Common.{is_some, if◌then◌else◌}
 use Rattle.std.proofs.lemmas.Bool.{eqb-true, eq-eqb}
@@ -50,9 +50,6 @@ pub record IsKnownOfLines : Type 0 where
   pub alone : IsReadSoAlone
   pub as_line : WrittenIsLine
   pub names : NamesAreLineWords
-
-pub both : (a b : Bool) → a ≡ true → b ≡ true → (a && b) ≡ true
-both a b p q = cc
 
 -- the end of a link to a server that has named itself
 pub record HasEnd (view : View) (k : ℕ) (far : Name) : Type 0 where

@@ -1,7 +1,8 @@
 -- Places among names.
 use Rattle.std.proofs.Common.{◌≡◌, ◌≢◌, ℕ, suc, Bool, true, false, ◌||◌, List, [], ◌∷◌, sym, ◌∙◌}
-use Rattle.std.proofs.Common.{ap, arith, if◌then◌else◌}
+use Rattle.std.proofs.Common.{ap, if◌then◌else◌}
 use Rattle.std.specs.List.{list_any}
+use Rattle.std.proofs.Math.Nat.{suc_inj}
 use Rattle.irc_relay.specs.Distances.{IsAmong}
 use Rattle.irc_relay.specs.Links.{Name, same}
 use Rattle.irc_relay.specs.Lemmas.TellingNames.{Telling, alike, unlike, tell}
@@ -18,9 +19,6 @@ later a first names two among = by (tell a first)
     by : Telling a first → IsAmong names a
     by (alike _ e) = absurd (two (sym e))
     by (unlike z _) = sym (ap (λ c. c || list_any (same a) names) z) ∙ among
-
-less : (k n : ℕ) → suc k ≡ suc n → k ≡ n
-less k n e = omega arith
 
 never : {A : Type 0} (n : ℕ) → 0 ≡ suc n → A
 never n e = absurd (cc e)
@@ -40,5 +38,4 @@ one_place (first ∷ names) a b among is = by (tell first a) (tell first b) (one
         (sym (place_is first b names true y) ∙ sym is ∙ place_is first a names false x)
     by (unlike x m) (unlike y _) rest =
         rest (later a first names m among)
-        (less (index_in names a) (index_in names b) (sym (place_is first a names false x) ∙ is
-        ∙ place_is first b names false y))
+        (suc_inj (sym (place_is first a names false x) ∙ is ∙ place_is first b names false y))

@@ -6,6 +6,7 @@ use Rattle.std.specs.Cmp.Lexicographic.{bytes_decides}
 use Rattle.std.specs.FinMap.{get, retain_keys}
 use Rattle.std.specs.List.{list_all}
 use Rattle.std.specs.Option.{option_and_then, option_map_or}
+use Rattle.std.specs.Cmp.{first_so, second_so}
 use Rattle.irc_line.specs.Reading.{read_of}
 use Rattle.irc_names.specs.Fold.{key}
 use Rattle.irc_names.specs.Fold as folded
@@ -132,11 +133,6 @@ module _ (s : ItemSetting) (p t : Name) (w : of_side.SideState) (view : View)
     pub users_there : list_all (has_user view.room) (needs_users effect) ≡ true
     users_there = (taken.possible.1 doable.possible).users_there
 
-  second : (a b : Bool) → (a && (b && true)) ≡ true → b ≡ true
-  second true true is = refl
-  second true false is = cc is
-  second false b is = cc is
-
   -- a user's home is here, or there is a way to it
   known_away : (fold : List ℕ) (user : User) → row view.room.users fold ≡ Some user
       → is_some (next_hop view.routes user.home) ≡ not (is_home t user)
@@ -165,7 +161,7 @@ module _ (s : ItemSetting) (p t : Name) (w : of_side.SideState) (view : View)
           (option_map (λ (u : User). u.home) (row view.room.users (key nick))))
           ≡ not (option_map_or (is_home t) (row view.room.users (key nick)) false)
       on None none = absurd (cc (sym (ap is_some none)
-          ∙ second (has_user view.room by) (has_user view.room nick) there))
+          ∙ first_so (has_user view.room nick) true (second_so (has_user view.room by) _ there)))
       on (Some user) is =
           ap (λ o. is_some
           (option_and_then (next_hop view.routes) (option_map (λ (u : User). u.home) o))) is

@@ -1,6 +1,6 @@
 -- A server that takes a line which says a deed shows its clients what the network shows them by
 -- that deed.
-use Rattle.std.proofs.Common.{◌≡◌, ℕ, Bool, true, false, cond, not, Option, Some, None, List, []}
+use Rattle.std.proofs.Common.{◌≡◌, ℕ, Bool, true, false, cond, Option, Some, None, List, []}
 use Rattle.std.proofs.Common.{◌∷◌, ◌++◌, refl, sym, ◌∙◌, ap, subst, option_to_list, option_map}
 use Rattle.std.proofs.Common.{append_assoc, if◌then◌else◌}
 use Rattle.std.proofs.lemmas.List.Elements.{filter_map-append}
@@ -8,6 +8,7 @@ use Rattle.std.specs.Cmp.Lexicographic.{bytes_decides}
 use Rattle.std.specs.FinMap.{get}
 use Rattle.std.specs.List.{flat_map, list_all}
 use Rattle.std.specs.Option.{option_and_then, option_map_or}
+use Rattle.std.proofs.lemmas.Bool.{not-true}
 use Rattle.irc_line.specs.Messages.{Written}
 use Rattle.irc_names.specs.Fold.{key, same}
 use Rattle.irc_names.specs.Tables.{row}
@@ -212,10 +213,6 @@ module _ (s : ItemSetting) (p t : Name) (w : of_side.SideState) (view : View)
       ∙ shown_alike effect (get view.clients who)
       ∙ ap (client_shown who w.hall.room effect) client_is
 
-  is_not : (b : Bool) → not b ≡ true → b ≡ false
-  is_not true is = cc is
-  is_not false is = refl
-
   effect_shown : (effect other : Effect) → other ≡ effect → IsDoableEffect s w effect → lines_to who
       (shown_at view other) ≡ client_shown who w.hall.room other (get w.hall.clients who)
   effect_shown effect (Invite by nick channel) is doable =
@@ -224,7 +221,7 @@ module _ (s : ItemSetting) (p t : Name) (w : of_side.SideState) (view : View)
       away : is_elsewhere view (Invite by nick channel) ≡ true
           → is_at t view.room.users (key nick) ≡ false
       away there =
-          is_not (is_at t view.room.users (key nick))
+          not-true (is_at t view.room.users (key nick))
           (sym (invited_elsewhere s p t w view takes fits by nick channel
           (subst (λ e. list_all (has_user view.room) (needs_users e) ≡ true) (sym is)
           (users_there s p t w view takes fits effect doable))) ∙ there)

@@ -5,6 +5,7 @@ use Rattle.std.proofs.Common.{None, List, [], ◌∷◌, is_none, refl, sym, ◌
 use Rattle.std.proofs.Common.{option_map, if◌then◌else◌}
 use Rattle.std.specs.FinMap.{get, insert}
 use Rattle.std.specs.Option.{option_map_or}
+use Rattle.std.proofs.Math.Bool.{or-true, or-false}
 use Rattle.irc_line.specs.Reading.{read_of}
 use Rattle.irc_merge.specs.Deeds.{gains}
 use Rattle.irc_relay.specs.Distances.{IsAmong}
@@ -107,12 +108,7 @@ module _ (s : ItemSetting) (fixed : IsItemSetting s) (p t : Name) (w : of_side.S
   other_end : (x : Name) → same x name ≡ false → far_end now t x ≡ far_end w t x
   other_end x other =
       ap (λ b. if linked w.tree.forest t x then Some (if b then Some x else None) else None)
-      (ap (λ b. w.tree.knows x || b) other ∙ or_none (w.tree.knows x))
-    where
-      or_none : (b : Bool) → (b || false) ≡ b
-      or_none true = refl
-      or_none false = refl
-
+      (ap (λ b. w.tree.knows x || b) other ∙ or-false (w.tree.knows x))
   not_linked : name ≢ p → linked w.tree.forest t name ≡ false
   not_linked two = by (linked w.tree.forest t name) refl
     where
@@ -200,12 +196,8 @@ module _ (s : ItemSetting) (fixed : IsItemSetting s) (p t : Name) (w : of_side.S
         ∙ sym (ap (λ b. if b then Some (if w.tree.knows x || same x name then Some x else None)
         else None) (linked_so)
         ∙ ap (λ b. Some (if b then Some x else None)) (ap (λ b. w.tree.knows x || b) is
-        ∙ or_true (w.tree.knows x)))
+        ∙ or-true (w.tree.knows x)))
       where
-        or_true : (b : Bool) → (b || true) ≡ true
-        or_true true = refl
-        or_true false = refl
-
         linked_so : linked w.tree.forest t x ≡ true
         linked_so =
             ap (linked w.tree.forest t) (e ∙ is_p) ∙ (tests_tell w.tree.forest t p t).2.1 p_linked

@@ -3,12 +3,14 @@ use Rattle.std.proofs.Common.{◌≡◌, ◌≢◌, inl, ℕ, ◌+◌, ◌<◌, 
 use Rattle.std.proofs.Common.{Option, Some, None, Ok, List, [], ◌∷◌, ◌++◌, codes, decimal, is_none}
 use Rattle.std.proofs.Common.{length, lit≤, arith, nat_eq, nat_lt, refl, sym, ◌∙◌, ap, subst, cond}
 use Rattle.std.proofs.Common.{unwrap_or, if◌then◌else◌}
-use Rattle.std.proofs.lemmas.Bool.{eq-eqb}
+use Rattle.std.proofs.lemmas.Bool.{eq-eqb, and_from}
 use Rattle.std.proofs.lemmas.Bool.Decides.{nat_tests}
 use Rattle.std.specs.Cmp.{first_so, second_so}
 use Rattle.std.specs.FinMap.{get}
 use Rattle.std.specs.List.{cons_option, list_all}
 use Rattle.std.specs.Option.{option_map_or}
+use Rattle.std.proofs.Math.Bool.{or-true}
+use Rattle.irc_names.specs.Lemmas.PlainFacts.{nat_eq-unlike}
 use Rattle.irc_batch.specs.declared.close_reason.CloseReason.{CloseReason}
 use Rattle.irc_batch.specs.declared.close_reason.CloseReason.TheVariants as reason
 use Rattle.irc_line.specs.Bytes.{has_nul}
@@ -53,8 +55,7 @@ use Rattle.irc_follow.specs.Laws.{GoesOn, SaidGainGoesOn}
 use Rattle.irc_follow.specs.Says.{neighbour_served, body, lines_on, machine, saying, Says}
 use Rattle.irc_follow.specs.Says.{IsDoableGain}
 use Rattle.irc_follow.specs.Lemmas.CarriedLines.{server_carried}
-use Rattle.irc_follow.specs.Lemmas.MemberLines.{other_byte}
-use Rattle.irc_follow.specs.Lemmas.Neighbours.{IsKnownOfLines, both}
+use Rattle.irc_follow.specs.Lemmas.Neighbours.{IsKnownOfLines}
 use Rattle.irc_follow.specs.Lemmas.Neighbours as beside
 use Rattle.irc_follow.specs.Lemmas.EffectsReadNext.{distance_at, low_token}
 use Rattle.irc_follow.specs.Lemmas.SaidEffect.{own_name}
@@ -83,10 +84,6 @@ pub four_so : (a b c d : Bool) → a ≡ true → b ≡ true → c ≡ true → 
     → (a && b && c && d) ≡ true
 four_so a b c d p q r t = cc
 
-pub or_true : (b : Bool) → (b || true) ≡ true
-or_true true = refl
-or_true false = refl
-
 pub low_distance : (d n : ℕ) → d < n → n ≤ max_servers → nat_lt d max_number ≡ true
 low_distance d n small few = grind (arith, nat_tests)
 
@@ -100,7 +97,7 @@ pub text_no_nul : (bytes : List ℕ) → list_all is_text_byte bytes ≡ true �
 text_no_nul [] all = refl
 text_no_nul (byte ∷ bytes) all =
     ap (λ b. b || has_nul bytes)
-    (other_byte is_text_byte 0x00 byte refl (first_so (is_text_byte byte) _ all))
+    (nat_eq-unlike is_text_byte 0x00 byte refl (first_so (is_text_byte byte) _ all))
     ∙ text_no_nul bytes (second_so (is_text_byte byte) _ all)
 
 some_digits : (digits : List ℕ) → is_number digits ≡ true → digits ≢ []
@@ -188,7 +185,7 @@ module _ (known : IsKnownOfLines) (uplink name words : List ℕ) (s : ItemSettin
 
   knows_it : now.tree.knows name ≡ true
   knows_it =
-      ap (λ b. w.tree.knows name || b) (same_when name name refl) ∙ or_true (w.tree.knows name)
+      ap (λ b. w.tree.knows name || b) (same_when name name refl) ∙ or-true (w.tree.knows name)
 
   next_is : next_distance written name ≡ links
   next_is = ap (λ o. suc (unwrap_or o 0)) (distance_at s now now_sound t name writer.here knows_it)
@@ -275,7 +272,8 @@ module _ (known : IsKnownOfLines) (uplink name words : List ℕ) (s : ItemSettin
 
   next_so : is_next_distance far_reader uplink links ≡ true
   next_so =
-      both (option_map_or (λ far. nat_eq links (far + 1)) (distance_of other.routes uplink) true)
+      and_from
+          (option_map_or (λ far. nat_eq links (far + 1)) (distance_of other.routes uplink) true)
       (nat_lt links max_number)
       (ap (λ o. option_map_or (λ far. nat_eq links (far + 1)) o true)
       (ap (λ routes. distance_of routes uplink) reader.routes
@@ -334,7 +332,7 @@ module _ (known : IsKnownOfLines) (uplink name words : List ℕ) (s : ItemSettin
       uplink_named
       (beside.is_behind s p t u w view other takes next apart writer reader uplink can.uplink_known
       uplink_way not_uplink))
-      (both (is_server uplink) (is_server name) uplink_named name_named) new_there
+      (and_from (is_server uplink) (is_server name) uplink_named name_named) new_there
       ∙ ap (λ n. Ok (a_server uplink name n (number_of (decimal (written_token written name))) words
       ∷ [])) distance_read
       ∙ ap (λ n. Ok (a_server uplink name links n words ∷ [])) token_read

@@ -5,7 +5,7 @@ use Rattle.std.proofs.Common.{◌≡◌, ◌≢◌, ℕ, suc, ◌+◌, ◌*◌, 
 use Rattle.std.proofs.Common.{is_some, Option, Some, None, Result, Ok, List, [], ◌∷◌, ◌++◌, codes}
 use Rattle.std.proofs.Common.{count_by, length, lit≤, append-nil, arith, nat_le, filter_map, map}
 use Rattle.std.proofs.Common.{refl, sym, ◌∙◌, ap, subst, option_map, if◌then◌else◌}
-use Rattle.std.proofs.lemmas.Bool.{and_from, le-leb}
+use Rattle.std.proofs.lemmas.Bool.{and_from, le-leb, or_right}
 use Rattle.std.proofs.lemmas.Bool.Decides.{nat_tests}
 use Rattle.std.specs.Cmp.{first_so, second_so}
 use Rattle.std.specs.FinMap.{keys}
@@ -57,7 +57,7 @@ use Rattle.irc_link_words.specs.Words.{is_mode_word, names_nick}
 use Rattle.irc_stage.specs.View.{End, View}
 use Rattle.irc_server.specs.Heard.{heard, of_met, opened}
 use Rattle.irc_wire.specs.Lemmas.LinesReadBack.{carried_no_nul, command_plain, from_plain}
-use Rattle.irc_wire.specs.Lemmas.ModesRead.{changes_again, changes_taken}
+use Rattle.irc_wire.specs.Lemmas.ModesRead.{changes_again, changes_taken, nick_so}
 use Rattle.irc_modes.specs.Lemmas.FewChanges.{letters_few}
 use Rattle.irc_wire.specs.Lemmas.ModeWords.{mode_words, worded_counted, words_plain}
 use Rattle.irc_wire.specs.Lemmas.NameKinds.{channel-for_channel}
@@ -111,15 +111,7 @@ all_checked true false names effects parameters_so direction_so names_so = cc di
 all_checked true true false effects parameters_so direction_so names_so = cc names_so
 all_checked true true true effects parameters_so direction_so names_so = refl
 
-pub or_so : (a b : Bool) → b ≡ true → (a || b) ≡ true
-or_so true b is = refl
-or_so false b is = is
-
 -- ---- changes of modes
-
-nick_so : (member fits : Bool) → fits ≡ true → (if member then fits else true) ≡ true
-nick_so true fits so = so
-nick_so false fits so = refl
 
 members_named : (changes : List ModeChange) → list_all has_its_word changes ≡ true
     → are_members_named changes ≡ true
@@ -278,7 +270,7 @@ module _ (names : NamesAreLineWords) (room : Room) (routes : Known) (link : ℕ)
       (all_checked parameters (may_come reader server)
       ((is_nick server || is_server server) && spelled) _ parameters_so comes
       (and_from (is_nick server || is_server server) spelled
-      (or_so (is_nick server) (is_server server) named_so) spelled_so)
+      (or_right (is_nick server) (is_server server) named_so) spelled_so)
       ∙ ap Ok
       (ap (λ b. if b then (if reader.has_far channel then effect by.Home ∷ [] else [])
       else if_there reader (effect (by.User server))) named_so

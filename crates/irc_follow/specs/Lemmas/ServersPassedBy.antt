@@ -8,6 +8,8 @@ use Rattle.std.specs.Cmp.Lexicographic.{bytes_decides}
 use Rattle.std.specs.FinMap.{get, values}
 use Rattle.std.specs.List.{cons_option, list_all, list_any, AllByRecursion}
 use Rattle.std.specs.Option.{option_and_then, option_map_or}
+use Rattle.std.proofs.Math.Bool.{and-false}
+use Rattle.std.specs.Cmp.{first_so}
 use Rattle.irc_names.specs.Fold.{key}
 use Rattle.irc_names.specs.Fold as folded
 use Rattle.irc_names.specs.Tables.{row}
@@ -45,15 +47,6 @@ use Rattle.irc_follow.specs.Fits.{Fits}
 use Rattle.irc_follow.specs.Laws.{PassedByStays}
 use Rattle.irc_follow.specs.Says.{IsFar, Passes}
 use Rattle.irc_follow.specs.Lemmas.EffectsOnSide.{effect_keeps}
-
-first_of : (a b : Bool) → (a && b) ≡ true → a ≡ true
-first_of true b is = refl
-first_of false b is = cc is
-
-second_of : (a b : Bool) → (a && (b && true)) ≡ true → b ≡ true
-second_of true true is = refl
-second_of true false is = cc is
-second_of false b is = cc is
 
 -- ---- the servers that an effect is told toward
 
@@ -152,9 +145,9 @@ pub teller : (room : Room) (effect : Effect) (homes : List (List ℕ))
     → told_homes room effect ≡ Some homes → list_all (has_user room) (needs_users effect) ≡ true
     → (nick : List ℕ) × ((doer_of effect ≡ Some nick) × (has_user room nick ≡ true))
 teller room (Say by notice to text) homes is there =
-    (by, (refl, first_of (has_user room by) (list_all (has_user room) (target_users to)) there))
+    (by, (refl, first_so (has_user room by) (list_all (has_user room) (target_users to)) there))
 teller room (Invite by nick channel) homes is there =
-    (by, (refl, first_of (has_user room by) (has_user room nick && true) there))
+    (by, (refl, first_so (has_user room by) (has_user room nick && true) there))
 teller room effect homes is there = cc is
 
 module _ (s : ItemSetting) (t : Name) (w : of_side.SideState) (effect : Effect)
@@ -268,13 +261,9 @@ module _ (s : ItemSetting) (t : Name) (w : of_side.SideState) (effect : Effect)
   unseen (Say by notice (target.Channel channel) text) is viewer user there home =
       on (is_member w.hall.room user.nick channel) refl
     where
-      and_false : (b : Bool) → (b && false) ≡ false
-      and_false true = refl
-      and_false false = refl
-
       on : (b : Bool) → is_member w.hall.room user.nick channel ≡ b
           → (not (folded.same by user.nick) && b) ≡ false
-      on false out = and_false (not (folded.same by user.nick))
+      on false out = and-false (not (folded.same by user.nick))
       on true member =
           let named = sound.well.users_named (key viewer) user there in
           absurd (cc (sym (not_told (homes_in w.hall.room channel) (ap (told_homes w.hall.room) is))

@@ -1,7 +1,8 @@
 -- A neighbour is told of the nearer servers first, and of two as far away of the one whose name
 -- comes first.
-use Rattle.std.proofs.Common.{◌≡◌, ℕ, ◌+◌, suc, Bool, true, false, cond, not, Some, None, List, []}
-use Rattle.std.proofs.Common.{◌∷◌, map, filter, drop, nat_eq, nat_lt, refl, sym, ◌∙◌, ap, arith}
+use Rattle.std.proofs.Common.{◌≡◌, ℕ, ◌+◌, Bool, true, false, cond, not, Some, None, List, []}
+use Rattle.std.proofs.Common.{◌∷◌, map, filter, drop, nat_eq, nat_lt, refl, sym, ◌∙◌, ap}
+use Rattle.std.proofs.Common.{one-add}
 use Rattle.std.proofs.lemmas.Bool.{and_parts}
 use Rattle.std.specs.declared.cmp.Ordering.{Ordering}
 use Rattle.std.specs.declared.cmp.Ordering.TheVariants.{Less, Equal, Greater}
@@ -11,12 +12,13 @@ use Rattle.std.specs.FinMap.{entries_sorted, is_sorted}
 use Rattle.std.specs.FinMap.Entries.{below_all, by_order, find, find-put, is_sorted-put, put}
 use Rattle.std.specs.List.{fold, insert, prefix_len, AllByRecursion}
 use Rattle.std.specs.Ordering.{is_eq, is_lt, ordering_reverse}
+use Rattle.irc_names.specs.Lemmas.PlainFacts.{is_true}
 use Rattle.irc_names.specs.Tables.{each, fold_cmp}
 use Rattle.irc_names.specs.TableLaws.{one_fold, same_fold}
 use Rattle.irc_tables.specs.FoldedRows.{IsInFoldedOrder}
 use Rattle.irc_routes.specs.declared.server_row.ServerRow.{ServerRow}
 use Rattle.irc_routes.specs.Known.{is_behind, is_told_before, others, put_among}
-use Rattle.irc_routes.specs.Lemmas.TableRows.{held, told, values_each}
+use Rattle.irc_routes.specs.Lemmas.TableRows.{held, values_each}
 use Rattle.irc_routes.specs.Lemmas.RouteLaws.{entries_named}
 use Rattle.irc_follow.specs.AtRest.{by_distance, ToldByDistance}
 use Rattle.irc_follow.specs.Lemmas.NamedRows.{if_passes, passed_named}
@@ -38,9 +40,6 @@ before_is a b = by (nat_lt a.distance b.distance) (nat_eq a.distance b.distance)
 abbrev rest : List ServerRow → List (List ℕ × ServerRow)
 rest = map by_distance
 
-one_up : (n : ℕ) → 1 + n ≡ suc n
-one_up n = omega arith
-
 put_is : (rows : List ServerRow) (r : ServerRow) → find fold_cmp (key r) (map by_distance rows)
     ≡ None → map by_distance (put_among rows r) ≡ put fold_cmp (key r) r (map by_distance rows)
 put_is [] r none = refl
@@ -58,7 +57,7 @@ put_is (x ∷ rows) r none = by (fold_cmp (key x) (key r)) refl (put_is rows r)
         ap (λ b. rest (insert (x ∷ rows) (cond b (1 + prefix_len
         (λ other. is_told_before other r) rows) 0) r)) (before_is x r ∙ ap is_lt e)
         ∙ ap (λ n. rest (insert (x ∷ rows) n r))
-        (one_up (prefix_len (λ other. is_told_before other r) rows))
+        (one-add (prefix_len (λ other. is_told_before other r) rows))
         ∙ ap (λ es. by_distance x ∷ es) (later (sym (ap (λ o. cond (is_eq o) (Some x)
         (find fold_cmp (key r) (rest rows))) (back Less e)) ∙ none))
         ∙ sym (ap (λ o. by_order o (by_distance r ∷ by_distance x ∷ rest rows) ((key x, r)
@@ -110,7 +109,7 @@ in_turn so_far (r ∷ rows) rise fresh sorted =
     let parts = and_parts _ _ rise in
     in_turn (put_among so_far r) rows parts.1 (still_fresh so_far r rows fresh.0 parts.0 fresh.1)
     (ap (is_sorted fold_cmp) (put_is so_far r fresh.0)
-    ∙ told _ (is_sorted-put fold_cmp nat_list_cmp_total (key r) r (map by_distance so_far)
+    ∙ is_true _ (is_sorted-put fold_cmp nat_list_cmp_total (key r) r (map by_distance so_far)
     (held _ sorted)))
 
 none_yet : (rows : List ServerRow) → AllByRecursion (Fresh []) rows
@@ -128,5 +127,5 @@ told_by_distance known link numbered =
     (sym (values_each p (if_passes name p) (λ x. refl) known.rows))
     ∙ ap (is_sorted fold_cmp) (entries_named name kept
     (passed_named name known.rows p (λ q r is. (numbered.rows q r is).named)))
-    ∙ told _ (entries_sorted kept))
+    ∙ is_true _ (entries_sorted kept))
     (none_yet (filter p (others known))) refl

@@ -7,15 +7,13 @@ use Rattle.std.proofs.lemmas.Bool.Decides.{Decides-eqb}
 use Rattle.std.specs.Cmp.Lexicographic.{bytes_decides}
 use Rattle.std.specs.List.{find, list_any}
 use Rattle.std.specs.Option.{option_map}
+use Rattle.std.proofs.lemmas.Option.{same_Some}
 use Rattle.irc_routes.specs.declared.server_row.ServerRow.{ServerRow}
 use Rattle.irc_routes.specs.Known.{Known, is_itself, is_known, row_of, smallest_free, token_out}
 use Rattle.irc_routes.specs.Known.{IsNumbered}
 use Rattle.irc_routes.specs.Limits.{first_token}
 use Rattle.irc_routes.specs.Lemmas.TableRows.{row_passes}
 use Rattle.irc_routes.specs.Lemmas.RouteLaws.{smallest_is_free}
-
-pub same_some : {X : Type 0} (x y : X) → Some x ≡ Some y → x ≡ y
-same_some x y is = ap (λ o. unwrap_or o x) is
 
 -- the number for a server, as it is looked up
 abbrev number_of : Bool → Option ServerRow → Option ℕ
@@ -49,16 +47,16 @@ module _ (known : Known) (numbered : IsNumbered known) where
       → number_of a found ≡ Some k → told known b other ≡ k → q ≢ name → ⊥
   apart q name true true found other ea eb fa fb k is same two = two (itself_is q name ea eb)
   apart q name true false found None ea eb fa fb k is same two =
-      above (smallest_free known) (smallest_is_free known).from (same_some 1 k is ∙ sym same)
+      above (smallest_free known) (smallest_is_free known).from (same_Some 1 k is ∙ sym same)
   apart q name true false found (Some s) ea eb fa fb k is same two =
-      above s.ours (from_two name s fb) (same_some 1 k is ∙ sym same)
+      above s.ours (from_two name s fb) (same_Some 1 k is ∙ sym same)
   apart q name false b None other ea eb fa fb k is same two = cc is
   apart q name false true (Some r) other ea eb fa fb k is same two =
-      above r.ours (from_two q r fa) (same ∙ sym (same_some r.ours k is))
+      above r.ours (from_two q r fa) (same ∙ sym (same_Some r.ours k is))
   apart q name false false (Some r) None ea eb fa fb k is same two =
-      not_used q r fa (same_some r.ours k is ∙ sym same)
+      not_used q r fa (same_Some r.ours k is ∙ sym same)
   apart q name false false (Some r) (Some s) ea eb fa fb k is same two =
-      two (numbered.ours q name r s fa fb (same_some r.ours k is ∙ sym same))
+      two (numbered.ours q name r s fa fb (same_Some r.ours k is ∙ sym same))
 
   pub told_apart : (q name : List ℕ) (k : ℕ) → q ≢ name → token_out known q ≡ Some k
       → unwrap_or (token_out known name) (smallest_free known) ≡ k → ⊥

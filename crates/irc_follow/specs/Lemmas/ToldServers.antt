@@ -1,9 +1,12 @@
 -- The neighbour on a link is told of the servers of this side.
 use Rattle.std.proofs.Common.{◌≡◌, ◌≢◌, inl, inr, ℕ, zero, suc, Bool, true, false, cond, not, ◌&&◌}
 use Rattle.std.proofs.Common.{◌||◌, List, [], ◌∷◌, map, filter, refl, sym, ◌∙◌, ap, subst}
-use Rattle.std.proofs.lemmas.Bool.{and_parts, and_from, eqb-true, eq-eqb}
+use Rattle.std.proofs.lemmas.Bool.{and_parts, and_from, eqb-true, eq-eqb, not-true}
 use Rattle.std.specs.Cmp.Lexicographic.{bytes_decides}
 use Rattle.std.specs.List.{fold, insert, list_any, prefix_len}
+use Rattle.std.proofs.Math.Bool.{or-false}
+use Rattle.std.specs.Cmp.{both_ways}
+use Rattle.irc_names.specs.Lemmas.PlainFacts.{or_swapped}
 use Rattle.irc_relay.specs.Distances.{EndsAreAmong, IsAmong}
 use Rattle.irc_relay.specs.Links.{Name, same, Link, joined, links_without, toward, AreJoined}
 use Rattle.irc_relay.specs.Links.{AreLinked, HasSides, IsForest, IsLeft}
@@ -14,7 +17,6 @@ use Rattle.irc_routes.specs.declared.server_row.ServerRow.{ServerRow}
 use Rattle.irc_routes.specs.Known.{Known, is_behind, is_told_before, others, put_among}
 use Rattle.irc_routes.specs.Known.{servers_told}
 use Rattle.irc_routes.specs.Lemmas.TableRows.{row_passes, some_stands}
-use Rattle.irc_routes.specs.Lemmas.DistinctLinks.{both_so}
 use Rattle.irc_follow.specs.Tree.{Shape, index_in, shape, shape_in}
 use Rattle.irc_follow.specs.SideState.{ItemSetting, info_in, number}
 use Rattle.irc_follow.specs.AtRest.{AreRight, ToldAreThisSide}
@@ -23,17 +25,13 @@ use Rattle.irc_follow.specs.Lemmas.BehindLinks.{joined_test, row_is_there, row_s
 use Rattle.irc_follow.specs.Lemmas.PlacesOfNames.{one_place}
 
 module _ (p : ServerRow → Bool) where
-  swapped : (a b c : Bool) → (a || (b || c)) ≡ (b || (a || c))
-  swapped true true c = refl
-  swapped true false c = refl
-  swapped false b c = refl
 
   any_inserted : (rows : List ServerRow) (n : ℕ) (r : ServerRow)
       → list_any p (insert rows n r) ≡ (p r || list_any p rows)
   any_inserted rows zero r = refl
   any_inserted [] (suc n) r = refl
   any_inserted (x ∷ rows) (suc n) r =
-      ap (λ b. p x || b) (any_inserted rows n r) ∙ swapped (p x) (p r) (list_any p rows)
+      ap (λ b. p x || b) (any_inserted rows n r) ∙ or_swapped (p x) (p r) (list_any p rows)
 
   pub any_told : (told rows : List ServerRow)
       → list_any p (fold put_among told rows) ≡ (list_any p rows || list_any p told)
@@ -60,10 +58,6 @@ module _ (p : ServerRow → Bool) where
           ≡ ((b && p r) || list_any (λ x. q x && p x) rows)
       by true rest = ap (λ b. p r || b) rest
       by false rest = rest
-
-pub or_none : (b : Bool) → (b || false) ≡ b
-or_none true = refl
-or_none false = refl
 
 pub any_named : (test : Name → Bool) (rows : List ServerRow) → list_any test
     (map (λ (r : ServerRow). r.name) rows) ≡ list_any (λ (r : ServerRow). test r.name) rows
@@ -94,13 +88,9 @@ module _ (s : ItemSetting) (links : List Link) (routes : Name → Known) (t u x 
       any_named (same x) (servers_told (routes t) (number s u))
       ∙ any_told (λ r. same x r.name) []
       (filter (λ r. not (is_behind (number s u) r)) (others (routes t)))
-      ∙ or_none (list_any (λ r. same x r.name)
+      ∙ or-false (list_any (λ r. same x r.name)
       (filter (λ r. not (is_behind (number s u) r)) (others (routes t))))
       ∙ any_filtered (λ r. same x r.name) (λ r. not (is_behind (number s u) r)) (others (routes t))
-
-  not_so : (b : Bool) → not b ≡ true → b ≡ true → ⊥
-  not_so true fails so = cc fails
-  not_so false fails so = cc so
 
   forth : list_any is_told (others (routes t)) ≡ true → (joined left x t && not (same x t)) ≡ true
   forth any =
@@ -113,10 +103,9 @@ module _ (s : ItemSetting) (links : List Link) (routes : Name → Known) (t u x 
       let together : AreJoined links x t = subst (λ n. AreJoined links n t) named says.joined in
       let two : x ≢ t = subst (λ n. n ≢ t) named says.apart in
       let not_over : toward links t x ≡ u → ⊥ =
-      λ way. not_so (is_behind (number s u) at.value) parts.0
-      (eq-eqb at.value.link (number s u)
-      (ap (λ (sh : Shape). sh.link) says.shape ∙ ap (λ n. index_in s.names (toward links t n)) named
-      ∙ ap (index_in s.names) way)) in
+      λ way. both_ways (is_behind (number s u) at.value) (not-true (is_behind (number s u) at.value)
+            parts.0) (eq-eqb at.value.link (number s u) (ap (λ (sh : Shape). sh.link) says.shape
+              ∙ ap (λ n. index_in s.names (toward links t n)) named ∙ ap (index_in s.names) way)) in
       and_from _ _ (joined_test left x t (this_side together not_over))
       (ap not (same_unless x t two))
     where
@@ -158,6 +147,6 @@ module _ (s : ItemSetting) (links : List Link) (routes : Name → Known) (t u x 
 pub told_are_this_side : ToldAreThisSide
 told_are_this_side s links routes t u x forest ends right linked =
     as_rows s links routes t u x forest ends right linked
-    ∙ both_so _ _ (forth s links routes t u x forest ends right linked)
+    ∙ both_ways _ _ (forth s links routes t u x forest ends right linked)
     (back_from s links routes t u x forest ends right linked (joined (links_without links t u) x t)
     (same x t) refl refl)

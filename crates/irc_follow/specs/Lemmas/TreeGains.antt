@@ -8,6 +8,7 @@ use Rattle.std.proofs.lemmas.Bool.Decides.{Decides-eqb}
 use Rattle.std.specs.List.{list_any}
 use Rattle.std.specs.Option.{option_map}
 use Rattle.std.specs.FinMap.{len}
+use Rattle.std.proofs.lemmas.Option.{same_Some}
 use Rattle.irc_names.specs.Names.{is_server}
 use Rattle.irc_names.specs.TableLaws.{same_fold, same_fold-refl, one_fold, row-alter}
 use Rattle.irc_relay.specs.Distances.{IsAmong}
@@ -28,7 +29,7 @@ use Rattle.irc_follow.specs.Tree.{Tree, index_in, shape, shape_in, told_token, k
 use Rattle.irc_follow.specs.Tree.{gained_at, IsSoundTree, AreServers, CanGain}
 use Rattle.irc_follow.specs.Lemmas.PlacesOfNames.{one_place}
 use Rattle.irc_follow.specs.Lemmas.FewRows.{two_more}
-use Rattle.irc_follow.specs.Lemmas.ToldNumbers.{same_some, told_apart, known_number, new_number}
+use Rattle.irc_follow.specs.Lemmas.ToldNumbers.{told_apart, known_number, new_number}
 use Rattle.irc_follow.specs.Lemmas.ToldNumbers.{none_found}
 
 module _ (names : List Name) (info : Name → List ℕ) (servers : AreServers names info)
@@ -312,7 +313,7 @@ module _ (names : List Name) (info : Name → List ℕ) (servers : AreServers na
             → cond b (Some (new_row u)) (row_of (tree.routes u) x) ≡ Some r
             → token_out (gained_at names tree uplink name words t) x ≡ Some r.token
         by true one is =
-            let row_is = same_some (new_row u) r is in
+            let row_is = same_Some (new_row u) r is in
             let one_server = one_place names t (next u) (sound.ends t u linked)
             (sym link ∙ ap (λ (s : ServerRow). s.link) (sym row_is)) in
             ap (token_out (gained_at names tree uplink name words t)) (one_fold x name one)
@@ -333,7 +334,7 @@ module _ (names : List Name) (info : Name → List ℕ) (servers : AreServers na
         by : (b : Bool) → cond b (Some (new_row t)) (row_of (tree.routes t) x) ≡ Some r
             → r.ours ≤ max_servers
         by true is = subst (λ (row : ServerRow). row.ours ≤ max_servers)
-            (same_some (new_row t) r is) (low_number t name here can.unknown can.among)
+            (same_Some (new_row t) r is) (low_number t name here can.unknown can.among)
         by false is = sound.low t x r here is
 
     pub gained_is_sound : IsSoundTree names info more

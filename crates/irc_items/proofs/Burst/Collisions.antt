@@ -3,9 +3,9 @@
 -- does nothing. Which lines may be so answered.
 use Rattle.std.proofs.Common.{◌≡◌, ◌≢◌, ◌⊎◌, inl, inr, ℕ, ◌+◌, ◌≤◌, arith, cond, count_by, length}
 use Rattle.std.proofs.Common.{Bool, true, false, ◌&&◌, is_some, Some, None, Ok, List, [], ◌∷◌, ◌++◌}
-use Rattle.std.proofs.Common.{◌≤◌, zero, suc, arith, bytes_eq, codes, lit≤, map, nat_eq, option_map}
-use Rattle.std.proofs.Common.{take, refl, sym, ◌∙◌, ap, if◌then◌else◌}
-use Rattle.std.proofs.lemmas.Bool.{eq-eqb}
+use Rattle.std.proofs.Common.{◌≤◌, arith, bytes_eq, codes, lit≤, map, nat_eq, option_map}
+use Rattle.std.proofs.Common.{take, refl, sym, ◌∙◌, ap, if◌then◌else◌, take-take}
+use Rattle.std.proofs.lemmas.Bool.{eq-eqb, and_from}
 use Rattle.std.proofs.lemmas.List.Sums.{count_by-le-length, sum_by-cons}
 use Rattle.std.specs.Option.{option_map_or}
 use Rattle.irc_line.specs.Bytes.{cut}
@@ -48,7 +48,7 @@ use Rattle.irc_follow.specs.Says.{IsDoableKill, Says}
 use Rattle.irc_follow.specs.Tree.{shape_in}
 use Rattle.irc_follow.specs.Lemmas.BehindLinks.{joined_test}
 use Rattle.irc_follow.specs.Lemmas.CarriedLines.{kill_carried}
-use Rattle.irc_follow.specs.Lemmas.Neighbours.{HasEnd, IsKnownOfLines, both, met_end}
+use Rattle.irc_follow.specs.Lemmas.Neighbours.{HasEnd, IsKnownOfLines, met_end}
 use Rattle.irc_follow.specs.Lemmas.EffectsReadNext.{link_of, shape_at}
 use Rattle.irc_follow.specs.Lemmas.SaidEffect.{own_name, rooms_alike}
 use Rattle.irc_follow.specs.Lemmas.SaidEffectToldOn.{no_row}
@@ -215,8 +215,8 @@ module _ (s : ItemSetting) (world : World) (routes : Name → Known) (p t : Name
     unfolding deeds_meant
     means_nothing =
         all_so true (may_come reader t && true) (is_server t && is_nick nick)
-        (killed t view.room nick) refl (both (may_come reader t) true comes refl)
-        (both (is_server t) (is_nick nick) t_named nick_named)
+        (killed t view.room nick) refl (and_from (may_come reader t) true comes refl)
+        (and_from (is_server t) (is_nick nick) t_named nick_named)
         ∙ ap (λ deeds. Ok (map a_deed deeds)) (none_killed t nick view.room none_here)
 
     unheard : IsUnheard s t view (line_text (kill_parts t nick))
@@ -246,25 +246,11 @@ kill_unheard laws s world routes p t nick view fixed fits linked among nick_name
 abbrev pub introduces : List ℕ → Bool
 introduces line = bytes_eq (take 5 line) (codes "NICK ")
 
-fewer : (few all : ℕ) → suc few ≤ suc all → few ≤ all
-fewer few all fits = omega arith
-
-front_of_front : (few all : ℕ) (bytes : List ℕ) → few ≤ all
-    → take few (take all bytes) ≡ take few bytes
-front_of_front zero all bytes fits = refl
-front_of_front (suc few) zero bytes fits = absurd (none fits)
-  where
-    none : suc few ≤ 0 → ⊥
-    none so = omega arith
-front_of_front (suc few) (suc all) [] fits = refl
-front_of_front (suc few) (suc all) (byte ∷ bytes) fits =
-    ap (λ rest. byte ∷ rest) (front_of_front few all bytes (fewer few all fits))
-
 -- what is cut off makes no difference
 uncut : (parts : Written) → introduces (line_text parts) ≡ introduces (joined_text parts)
 unfolding line_text cut
 uncut parts = ap (λ front. bytes_eq front (codes "NICK "))
-    (front_of_front 5 max_line (joined_text parts) (lit≤ tt))
+    (take-take 5 max_line (joined_text parts) (lit≤ tt))
 
 pub user_introduces : (their_room : Room) (known : Known) (user : User)
     → introduces (line_text (wire their_room known (AddUser user))) ≡ true

@@ -10,6 +10,7 @@ use Rattle.std.specs.Bool.{⊤}
 use Rattle.std.specs.FinMap.{entries, entries_sorted, values, find, is_sorted}
 use Rattle.std.specs.List.{flat_map, AllByRecursion}
 use Rattle.std.specs.Option.{option_map_or}
+use Rattle.irc_names.specs.Lemmas.PlainFacts.{is_true}
 use Rattle.irc_channels.specs.declared.flags.Flags.{Flags}
 use Rattle.irc_follow.specs.Lemmas.DeedEffects.{members_quiet, sets_quiet, tops_quiet, users_stay}
 use Rattle.irc_merge.specs.Lemmas.DoableDeeds.{deeds_well}
@@ -21,7 +22,7 @@ use Rattle.irc_merge.specs.Deeds.{Deed, does, kills, brings, sets, tops, member_
 use Rattle.irc_merge.specs.Deeds.{after_deed, after_deeds}
 use Rattle.irc_merge.specs.Laws.{AreApart}
 use Rattle.irc_merge.specs.Lemmas.Introducing.{introductions, told_user}
-use Rattle.irc_merge.specs.Lemmas.TableWords.{true_is, first_there, above_first}
+use Rattle.irc_merge.specs.Lemmas.TableWords.{first_there, above_first}
 use Rattle.irc_modes.specs.declared.modes.ModeChange.{ModeChange}
 use Rattle.irc_names.specs.Fold.{key}
 use Rattle.irc_names.specs.Tables.{fold_cmp, row}
@@ -347,6 +348,6 @@ held_first doable own server far room other well well_other =
     both_held own far room (user_deeds other)
     (flat_map (channel_deeds server other.users) (values other.channels))
     (deeds_of_channels server other.users (values other.channels)) room
-    (users_held own far room doable (entries other.users) (true_is _ (entries_sorted other.users))
+    (users_held own far room doable (entries other.users) (is_true _ (entries_sorted other.users))
     (table_named other.users well_other.users_named) room well
     (λ q there. refl))

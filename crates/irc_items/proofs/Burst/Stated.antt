@@ -13,6 +13,7 @@ use Rattle.std.specs.Int.{div_ceil}
 use Rattle.std.specs.List.{cons_option, flat_map, list_all, AllByRecursion}
 use Rattle.std.specs.Option.{option_map}
 use Rattle.std.specs.Simd.{first_chunks}
+use Rattle.irc_names.specs.Lemmas.PlainFacts.{is_true}
 use Rattle.irc_acts.specs.CarriedWords.{digits_carried, key_carried}
 use Rattle.irc_channels.specs.declared.channel.Channel.{Channel}
 use Rattle.irc_channels.specs.declared.flags.Flags.{Flags}
@@ -20,7 +21,7 @@ use Rattle.irc_line.specs.Carried.{is_carried, IsCarried}
 use Rattle.irc_merge.specs.Bursts.{in_lines, members_a_line, bans_a_line, user_deeds, stored_member}
 use Rattle.irc_merge.specs.Bursts.{stored_members, settings_line, topic_line, channel_deeds, burst}
 use Rattle.irc_merge.specs.Deeds.{does, brings, sets, tops}
-use Rattle.irc_merge.specs.Lemmas.TableWords.{true_is, entries_all}
+use Rattle.irc_merge.specs.Lemmas.TableWords.{entries_all}
 use Rattle.irc_modes.specs.Lemmas.SetReadable.{set_is_readable, bans_are_readable}
 use Rattle.irc_modes.specs.Lemmas.LimitFacts.{limit-digits}
 use Rattle.irc_modes.specs.Lemmas.LimitText.{limit_written}
@@ -359,7 +360,7 @@ users_are_told server other well within =
     users_stated server other (entries other.users)
     (entries_all (λ fold user. IsTheirUser other user) (entries other.users)
     (λ fold user is. each_user other well within fold user (get-entries other.users fold ∙ is))
-    (true_is _ (entries_sorted other.users)))
+    (is_true _ (entries_sorted other.users)))
 
 pub channels_are_told : (server : List ℕ) (other : Room) → IsWellFormed other
     → IsWithinLimits other → AllByRecursion (IsTold server other)
@@ -368,7 +369,7 @@ channels_are_told server other well within =
     channels_stated server other well (entries other.channels)
     (entries_all (λ fold channel. IsChannelWithin channel) (entries other.channels)
     (λ fold channel is. within.channels fold channel (get-entries other.channels fold ∙ is))
-    (true_is _ (entries_sorted other.channels)))
+    (is_true _ (entries_sorted other.channels)))
 
 pub burst_is_told : (server : List ℕ) (other : Room) → IsWellFormed other → IsWithinLimits other
     → AllByRecursion (IsTold server other) (burst server other)

@@ -1,7 +1,7 @@
 -- What becomes of a network when a client connects, says a line or goes.
-use Rattle.std.proofs.Common.{◌≡◌, ◌≢◌, ℕ, zero, suc, ◌+◌, Bool, true, false, cond, Option, Some}
+use Rattle.std.proofs.Common.{◌≡◌, ◌≢◌, ℕ, zero, suc, Bool, true, false, cond, Option, Some}
 use Rattle.std.proofs.Common.{None, is_none, is_some, unwrap_or, List, [], ◌∷◌, ◌++◌, length, refl}
-use Rattle.std.proofs.Common.{sym, ◌∙◌, ap, subst, arith, if◌then◌else◌}
+use Rattle.std.proofs.Common.{sym, ◌∙◌, ap, subst, arith, if◌then◌else◌, add-one}
 use Rattle.std.specs.FinMap.{get, get-retain_keys, nat_cmp-IsAntisymmetric}
 use Rattle.std.specs.List.{list_any, slice_get}
 use Rattle.std.specs.Option.{option_and_then, option_map, option_map_or}
@@ -212,16 +212,13 @@ gone_is_given stays net sound client taken =
 
 -- ---- a client connects
 
-one_more : (n : ℕ) → n + 1 ≡ suc n
-one_more n = omega arith
-
 past_all : {A : Type 0} (xs : List A) → slice_get xs (length xs) ≡ None
 past_all [] = refl
 past_all (x ∷ xs) = past_all xs
 
 -- nobody had that number
 pub next_has_none : (net : Network) → home_in net.homes (next_client net) ≡ None
-next_has_none net = ap (home_in net.homes) (one_more (length net.homes)) ∙ past_all net.homes
+next_has_none net = ap (home_in net.homes) (add-one (length net.homes)) ∙ past_all net.homes
 
 -- an inbox more, which is empty, is read as none
 empty_behind : {A : Type 0} (xs : List (List A)) (i : ℕ)

@@ -1,7 +1,7 @@
 -- A network is sound once a client's item is given: a client connects, says a line or goes.
-use Rattle.std.proofs.Common.{◌≡◌, ℕ, zero, suc, ◌+◌, ◌*◌, ◌-◌, ◌≤◌, Bool, true, false, cond}
+use Rattle.std.proofs.Common.{◌≡◌, ℕ, zero, suc, ◌*◌, ◌-◌, ◌≤◌, Bool, true, false, cond}
 use Rattle.std.proofs.Common.{Option, Some, None, is_some, List, [], ◌∷◌, ◌++◌, length, refl, sym}
-use Rattle.std.proofs.Common.{ap, subst, ◌∙◌, arith}
+use Rattle.std.proofs.Common.{ap, subst, ◌∙◌, arith, add-one}
 use Rattle.std.specs.FinMap.{get}
 use Rattle.std.specs.Option.{option_map_or}
 use Rattle.irc_line.specs.Carried.{IsCarried}
@@ -60,9 +60,6 @@ pub record AreItemLaws : Type 0 where
   pub place : PlaceIsWorlds
   pub kept : ServedKeepsItsSetting
   pub steps : AreStepLaws
-
-one_up : (n : ℕ) → n + 1 ≡ suc n
-one_up n = omega arith
 
 module _ (laws : AreItemLaws) (net : Network) (sound : IsSound net) (rest : is_at_rest net ≡ true)
     (one : IsOneRoom net)
@@ -263,7 +260,7 @@ module _ (laws : AreItemLaws) (net : Network) (sound : IsSound net) (rest : is_a
 
     same_number : suc (length (world_now net).homes) ≡ next_client net
     same_number = ap (λ (homes : List Name). suc (length homes)) (sym sound.homes)
-        ∙ sym (one_up (length net.homes))
+        ∙ sym (add-one (length net.homes))
 
     stepped : step (settings_of net) (world_now net) (connect server host)
         ≡ by_machine (settings_of net) world server (connects (next_client net) host)

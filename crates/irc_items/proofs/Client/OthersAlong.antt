@@ -1,10 +1,10 @@
 -- What a client's event makes of the other clients of a room machine: just what its effects make of
 -- a hall. They are shown just what the effects show.
-use Rattle.std.proofs.Common.{◌≡◌, ℕ, Bool, true, false, cond, not, ◌||◌, Option, Some, None, Ok}
+use Rattle.std.proofs.Common.{◌≡◌, ℕ, Bool, true, false, cond, not, Option, Some, None, Ok}
 use Rattle.std.proofs.Common.{Err, List, [], ◌∷◌, ◌++◌, refl, sym, ◌∙◌, ap, subst, append-nil}
 use Rattle.std.proofs.Common.{append_assoc, nat_eq, option_map, if◌then◌else◌}
 use Rattle.std.specs.Prelude.{⊤}
-use Rattle.std.proofs.lemmas.Bool.{eqb-true}
+use Rattle.std.proofs.lemmas.Bool.{eqb-true, or_parts}
 use Rattle.std.proofs.lemmas.List.Elements.{filter_map-append}
 use Rattle.std.specs.FinMap.{get}
 use Rattle.std.specs.List.{flat_map, list_any, cons_option}
@@ -211,17 +211,13 @@ module _ (conn : ℕ) where
   quiet_leaves (Quit nick text) clients quiet = cc quiet
   quiet_leaves effect clients quiet = tt
 
-  neither : (a b : Bool) → (a || b) ≡ false → (a ≡ false) × (b ≡ false)
-  neither true b is = cc is
-  neither false b is = (refl, is)
-
   quiet_leave : (acts : List Act) (clients : Clients) → list_any adds_or_ends acts ≡ false
       → AllLeaveOthers conn (effects_among acts) clients
   quiet_leave [] clients quiet = tt
   quiet_leave (Answer reply ∷ acts) clients quiet = quiet_leave acts clients quiet
   quiet_leave (Raw line ∷ acts) clients quiet = quiet_leave acts clients quiet
   quiet_leave (Do effect ∷ acts) clients quiet =
-      let parts = neither (adds_or_ends (Do effect)) (list_any adds_or_ends acts) quiet in
+      let parts = or_parts (adds_or_ends (Do effect)) (list_any adds_or_ends acts) quiet in
       record {
         now = quiet_leaves effect clients parts.0;
         later = quiet_leave acts (clients_left effect clients) parts.1;

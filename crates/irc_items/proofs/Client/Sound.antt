@@ -1,8 +1,9 @@
 -- A network is sound once a client's item is given.
 use Rattle.std.proofs.Common.{◌≡◌, ◌⊎◌, ℕ, ◌+◌, ◌*◌, ◌-◌, ◌≤◌, true, is_some, List, ◌++◌, length}
-use Rattle.std.proofs.Common.{count_by, refl, sym, ap, subst, ◌∙◌, arith, inl}
+use Rattle.std.proofs.Common.{count_by, refl, sym, ap, subst, ◌∙◌, arith, inl, le_of_eq}
 use Rattle.irc_relay.specs.Distances.{IsAmong}
 use Rattle.std.proofs.lemmas.List.{length-map}
+use Rattle.irc_names.specs.Lemmas.PlainFacts.{is_some-map}
 use Rattle.irc_merge.specs.Deeds.{does}
 use Rattle.irc_relay.specs.Lemmas.TellingNames.{Telling, alike, unlike, tell}
 use Rattle.irc_relay.specs.Links.{Name, distance, part, same, linked, joined, AreLinked}
@@ -24,7 +25,7 @@ use Rattle.irc_items.specs.Relayed.{is_met_with, relayed, way_at}
 use Rattle.irc_items.specs.SetUp.{routes_in, settings_of, view_at}
 use Rattle.irc_items.specs.Sound.{owed_now, world_now, is_met, HasCalled, IsSound}
 use Rattle.irc_items.proofs.Common.Begun.{begins, IsGoingOn}
-use Rattle.irc_items.proofs.Common.Sources.{as_many, few_from_one, AreFew}
+use Rattle.irc_items.proofs.Common.Sources.{few_from_one, AreFew}
 use Rattle.irc_items.proofs.Client.Begins.{client_goes_on, fits_before, fits_home, fits_taker}
 use Rattle.irc_items.proofs.Client.Begins.{from_home, AreClientLaws, IsToldByHome}
 use Rattle.irc_items.proofs.Client.Given.{done_at}
@@ -33,7 +34,7 @@ use Rattle.irc_items.proofs.Client.Side.{ends, home_setting, right_here, IsClien
 use Rattle.irc_items.proofs.Common.Counting.{part_counted}
 use Rattle.irc_items.proofs.Common.FewLines.{none_at_source, none_pending}
 use Rattle.irc_items.proofs.Home.Fits.{DoesAsMachine}
-use Rattle.irc_items.proofs.Common.Reading.{linked_met, stays_some}
+use Rattle.irc_items.proofs.Common.Reading.{linked_met}
 use Rattle.irc_items.proofs.Common.Step.{item_sound, ComesTo}
 use Rattle.irc_items.proofs.Common.SourceFacts.{home_depth, next_to, stands_from_one, IsNextTo}
 
@@ -90,10 +91,10 @@ module _ (laws : AreClientLaws) {net base new : Network} {world : World} {h : Na
       at_end = λ e o is.
           let none = ap (λ v. distance world.links v (from_one world.links h v)) is
           ∙ home_depth world.links given.holds.sound.forest h in
-          as_many (ap (λ (lines : List (List ℕ)). length lines) (none_at_source goes_on e none));
+          le_of_eq (ap (λ (lines : List (List ℕ)). length lines) (none_at_source goes_on e none));
       next = λ t e o ends on two one. next_few t one;
       told = λ t e o ends on.
-          as_many
+          le_of_eq
           (length-map (effects_at (machine_at (settings_of net) world h) client_event) does);
     }
 
@@ -147,7 +148,7 @@ module _ (laws : AreClientLaws) {net base new : Network} {world : World} {h : Na
       by : Telling x h → is_some (way_at new x place) ≡ is_some (way_at net x place)
       by (alike _ e) =
           ap (λ v. is_some (way_at new v place)) e ∙ ap is_some (given.served.way place)
-          ∙ stays_some (λ lines. lines ++ lines_on place (done_at net h client_event).out)
+          ∙ is_some-map (λ lines. lines ++ lines_on place (done_at net h client_event).out)
           (way_at net h place) ∙ sym (ap (λ v. is_some (way_at net v place)) e)
       by (unlike _ two) = ap is_some (given.served.other_ways x place two)
 

@@ -69,7 +69,3 @@ linked_met s world routes y x view fits among l =
     known_met s (side_state_of s world routes y) y x view fits among
     ((tests_tell world.links y x x).2.1 l)
     ((tests_tell world.links x y y).1.1 (sym (linked_joined world.links y x l)))
-
-pub stays_some : {A B : Type 0} (f : A → B) (o : Option A) → is_some (option_map f o) ≡ is_some o
-stays_some f None = refl
-stays_some f (Some a) = refl

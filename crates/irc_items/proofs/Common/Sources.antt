@@ -118,9 +118,6 @@ starts_from {s = s} asks after routes new client stands near sides fits first st
 
 -- ---- how many lines come
 
-pub as_many : {n m : ℕ} → n ≡ m → n ≤ m
-as_many is = omega (is, arith)
-
 -- To a source come so many lines, `most`, and to whoever is behind it `each`.
 pub record AreFew (Ends : Name → Name → Type 0) (base : List Link) (s : ItemSetting) (new : Network)
     (client : ℕ) (deeds : Name → List Deed)

@@ -3,6 +3,7 @@
 use Rattle.std.proofs.Common.{◌≡◌, inl, inr, Bool, true, false, not, ◌&&◌, List, [], ◌∷◌, refl, sym}
 use Rattle.std.proofs.Common.{◌∙◌, ap, subst}
 use Rattle.std.proofs.lemmas.Bool.{and_from, and_parts}
+use Rattle.std.specs.Cmp.{both_ways}
 use Rattle.irc_relay.specs.Links.{Name, Link, part, joined, linked, links_without, AreJoined}
 use Rattle.irc_relay.specs.Links.{AreLinked, HasEnds, IsForest, IsKept, IsLeft, Rejoins, still}
 use Rattle.irc_relay.specs.Links.{parted, turned}
@@ -10,7 +11,6 @@ use Rattle.irc_relay.specs.Lemmas.TellingNames.{same_unless}
 use Rattle.irc_relay.specs.Lemmas.NextHops.{linked_joined}
 use Rattle.irc_relay.specs.Lemmas.LinkTakenOut.{Ending, ends, ending, linked_tells, passes, rejoins}
 use Rattle.irc_relay.specs.Lemmas.LinkTakenOut.{taken_out, without-ends, without-passes}
-use Rattle.irc_routes.specs.Lemmas.DistinctLinks.{both_so}
 use Rattle.irc_follow.specs.Lemmas.SideAtRest.{joined_so}
 use Rattle.irc_follow.specs.Lemmas.BehindLinks.{joined_test}
 
@@ -97,7 +97,7 @@ module _ (links left : List Link) (a b : Name) (cut : AreCutEnds links left a b)
   -- of those who were joined to a server of a's side, who is not on b's side still is
   pub side_joined : (x t : Name) → AreJoined left t a
       → (joined links x t && not (joined left b x)) ≡ joined left x t
-  side_joined x t here = both_so _ _ forth turn
+  side_joined x t here = both_ways _ _ forth turn
     where
       forth : (joined links x t && not (joined left b x)) ≡ true → joined left x t ≡ true
       forth so =
@@ -119,7 +119,7 @@ module _ (links left : List Link) (a b : Name) (cut : AreCutEnds links left a b)
   pub linked_same : (t x : Name) → (t ≡ a → x ≡ b → ⊥) → (t ≡ b → x ≡ a → ⊥)
       → linked links t x ≡ linked left t x
   linked_same t x forth back =
-      both_so _ _
+      both_ways _ _
       (λ so. (linked_tells left t x).1 (there (cut.after t x ((linked_tells links t x).0 so))))
       (λ so. (linked_tells links t x).1 (cut.before t x ((linked_tells left t x).0 so)))
     where
@@ -144,7 +144,7 @@ module _ (links left : List Link) (a b : Name) (cut : AreCutEnds links left a b)
   -- a server that is joined to neither end
   module _ (t : Name) (not_near : AreJoined left t a → ⊥) (not_far : AreJoined left t b → ⊥) where
     pub aside_joined : (x : Name) → joined links x t ≡ joined left x t
-    aside_joined x = both_so _ _ forth
+    aside_joined x = both_ways _ _ forth
         (λ so. joined_test links x t (cut.kept x t (joined_so left x t so)).joined)
       where
         forth : joined links x t ≡ true → joined left x t ≡ true

@@ -1,15 +1,17 @@
 -- What a side comes to by servers that it loses: it knows them no more, and their users have quit.
 -- Each client of its own servers stays, and has seen just those quits.
-use Rattle.std.proofs.Common.{◌≡◌, ℕ, Bool, true, false, cond, not, ◌&&◌, ◌||◌, Option, Some, None}
+use Rattle.std.proofs.Common.{◌≡◌, ℕ, Bool, true, false, cond, not, ◌&&◌, Option, Some, None}
 use Rattle.std.proofs.Common.{List, [], ◌∷◌, ◌++◌, append-nil, refl, sym, ◌∙◌, ap, if◌then◌else◌}
 use Rattle.std.specs.Cmp.Lexicographic.{bytes_decides}
 use Rattle.std.specs.FinMap.{get}
 use Rattle.std.specs.List.{list_any}
 use Rattle.std.specs.Option.{option_map_or}
+use Rattle.std.proofs.Math.Bool.{and-true}
+use Rattle.std.proofs.lemmas.Bool.{or_parts}
+use Rattle.irc_names.specs.Lemmas.PlainFacts.{and_neither}
 use Rattle.irc_server.specs.DeedTold.{losses, split_text}
 use Rattle.irc_merge.specs.Deeds.{Deed, loses, after_deed, after_deeds, shown_by, shown_by_all}
 use Rattle.irc_merge.specs.Split.{squits, split}
-use Rattle.irc_merge.specs.Lemmas.BooleanTests.{neither}
 use Rattle.irc_merge.specs.Laws.{IsSplitBy, SquitsSplit}
 use Rattle.irc_relay.specs.Following.{all_done, all_seen}
 use Rattle.irc_relay.specs.Links.{Name, same, Link, joined}
@@ -82,15 +84,6 @@ pub record HasLost (s : ItemSetting) (own far : Name) (names : List Name)
   pub clients : (t : Name) (q : ℕ) → list_any (same t) names ≡ false → is_home_of s.homes t q ≡ true
       → get after.hall.clients q ≡ get before.hall.clients q
 
-and_all : (b : Bool) → b ≡ (b && true)
-and_all true = refl
-and_all false = refl
-
-and_in_turn : (a b c : Bool) → ((a && not b) && not c) ≡ (a && not (b || c))
-and_in_turn true true c = refl
-and_in_turn true false c = refl
-and_in_turn false b c = refl
-
 -- what a client sees of deeds by which it stays
 abbrev pub staying_sees : List Deed → Room → Option Client → List (List ℕ)
 staying_sees deeds room None = []
@@ -138,7 +131,7 @@ module _ (s : ItemSetting) (client : ℕ) (own far : Name) where
   all_lost [] w = record {
     forest = refl;
     here = refl;
-    knows = λ x. and_all (w.tree.knows x);
+    knows = λ x. sym (and-true (w.tree.knows x));
     configured = λ t. record { info = refl; created = refl };
     room = refl;
     clients = λ t q two home. refl;
@@ -149,7 +142,7 @@ module _ (s : ItemSetting) (client : ℕ) (own far : Name) where
         forest = rest.forest;
         here = rest.here;
         knows = λ x. rest.knows x
-            ∙ and_in_turn (w.tree.knows x) (same x name) (list_any (same x) names);
+            ∙ and_neither (w.tree.knows x) (same x name) (list_any (same x) names);
         configured = λ t.
             let first = lost_configured w.tree name t in
             record {
@@ -158,7 +151,7 @@ module _ (s : ItemSetting) (client : ℕ) (own far : Name) where
             };
         room = rest.room;
         clients = λ t q two home.
-            let parts = neither (same t name) (list_any (same t) names) two in
+            let parts = or_parts (same t name) (list_any (same t) names) two in
             rest.clients t q parts.1 home
             ∙ client_stays s.homes name t w.hall.clients q parts.0 home;
       }
@@ -170,7 +163,7 @@ module _ (s : ItemSetting) (client : ℕ) (own far : Name) where
   unfolding done
   seen_lost t home [] two w = nothing_yet w.hall.room (get w.hall.clients client)
   seen_lost t home (name ∷ names) two w =
-      let parts = neither (same t name) (list_any (same t) names) two in
+      let parts = or_parts (same t name) (list_any (same t) names) two in
       let deed : Deed = loses own name (split_text own far) in
       let later : List Deed = losses own far names in
       let first : List (List ℕ) = client_sees deed w.hall.room (get w.hall.clients client) in

@@ -5,6 +5,7 @@ use Rattle.std.proofs.lemmas.Bool.{and_parts}
 use Rattle.std.specs.FinMap.{entries, entries_sorted, get-entries, is_sorted}
 use Rattle.std.specs.FinMap.Entries.{below_all}
 use Rattle.std.specs.List.{AllByRecursion}
+use Rattle.irc_names.specs.Lemmas.PlainFacts.{is_true}
 use Rattle.irc_names.specs.Fold.{key}
 use Rattle.irc_names.specs.Tables.{fold_cmp, row}
 use Rattle.irc_names.specs.TableLaws.{same_fold, row-alter}
@@ -17,7 +18,7 @@ use Rattle.irc_room.specs.Limits.{KeepsLimits}
 use Rattle.irc_room.specs.Room.{Room, IsWellFormed}
 use Rattle.irc_room.specs.Lemmas.ViewerLaws.{IsNamed, table_named}
 use Rattle.irc_merge.specs.CanBeDone.{DoesSomething}
-use Rattle.irc_merge.specs.Lemmas.TableWords.{above_first, entries_all, first_there, true_is}
+use Rattle.irc_merge.specs.Lemmas.TableWords.{above_first, entries_all, first_there}
 use Rattle.irc_merge.specs.Quits.{quits_of, users_at}
 
 -- each of these entries is a user of the room
@@ -73,7 +74,7 @@ quit_in_turn p text (e ∷ es) room rise named there =
 pub quits_do : (room : Room) (name text : List ℕ) → IsWellFormed room
     → EachInTurn DoesSomething room (quits_of text (users_at name room))
 quits_do room name text well =
-    let rise = true_is _ (entries_sorted room.users) in
+    let rise = is_true _ (entries_sorted room.users) in
     quit_in_turn (is_home name) text (entries room.users) room rise
     (table_named room.users well.users_named)
     (entries_all (λ q x. row room.users q ≡ Some x) (entries room.users)

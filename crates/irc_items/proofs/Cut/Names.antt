@@ -1,5 +1,5 @@
 -- The servers of a side, listed: each stands there once, and just those of the side do.
-use Rattle.std.proofs.Common.{◌≡◌, ℕ, Bool, true, false, cond, not, ◌||◌, T, is_some, Some, None}
+use Rattle.std.proofs.Common.{◌≡◌, ℕ, Bool, true, false, cond, not, ◌||◌, is_some, Some, None}
 use Rattle.std.proofs.Common.{List, [], ◌∷◌, map, refl, ◌∙◌, ap}
 use Rattle.std.proofs.lemmas.Bool.{and_from, and_parts}
 use Rattle.std.specs.Cmp.Lexicographic.{texts_ties}
@@ -9,6 +9,7 @@ use Rattle.std.specs.FinMap.{entries, entries_sorted, is_sorted, keys}
 use Rattle.std.specs.FinMap.Entries.{below_all}
 use Rattle.std.specs.List.{list_any}
 use Rattle.std.specs.Ordering.{is_eq, is_lt}
+use Rattle.irc_names.specs.Lemmas.PlainFacts.{is_true}
 use Rattle.irc_merge.specs.Split.{are_distinct}
 use Rattle.irc_names.specs.Spellings.{exactly_same}
 use Rattle.irc_names.specs.Tables.{Table, fold_cmp, tabulate}
@@ -25,10 +26,6 @@ less_is_other : (r : Ordering) → is_lt r ≡ true → is_eq r ≡ false
 less_is_other Less is = refl
 less_is_other Equal is = absurd (cc is)
 less_is_other Greater is = absurd (cc is)
-
-told : (b : Bool) → T b → b ≡ true
-told true is = refl
-told false is = absurd is
 
 abbrev folds_of : {X : Type 0} → List (List ℕ × X) → List (List ℕ)
 folds_of es = map (λ e. e.0) es
@@ -52,7 +49,7 @@ sorted_distinct (e ∷ es) rise =
 
 pub keys_distinct : {X : Type 0} (table : Table X) → are_distinct (keys table) ≡ true
 keys_distinct table = sorted_distinct (entries table)
-    (told (is_sorted fold_cmp (entries table)) (entries_sorted table))
+    (is_true (is_sorted fold_cmp (entries table)) (entries_sorted table))
 
 pub servers_distinct : (settings : List Setting) (test : Name → Bool)
     → are_distinct (servers_where settings test) ≡ true

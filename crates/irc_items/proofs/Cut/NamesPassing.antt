@@ -3,9 +3,10 @@ use Rattle.std.proofs.Common.{◌≡◌, ℕ, Bool, true, false, cond, Option, S
 use Rattle.std.proofs.Common.{map, refl, sym, ◌∙◌, if◌then◌else◌}
 use Rattle.std.specs.FinMap.{entries, entries_sorted, get-entries, keys}
 use Rattle.std.specs.List.{list_any, AllByRecursion}
+use Rattle.irc_names.specs.Lemmas.PlainFacts.{is_true}
 use Rattle.irc_names.specs.Tables.{row, tabulate}
 use Rattle.irc_names.specs.TableLaws.{same_fold, row-tabulate}
-use Rattle.irc_merge.specs.Lemmas.TableWords.{entries_all, true_is}
+use Rattle.irc_merge.specs.Lemmas.TableWords.{entries_all}
 
 module _ (names : List (List ℕ)) (test : List ℕ → Bool) where
   abbrev mark_of : List ℕ → Option (Unit {0})
@@ -31,4 +32,4 @@ module _ (names : List (List ℕ)) (test : List ℕ → Bool) where
       of_entries (entries (tabulate names mark_of))
       (entries_all (λ q u. test q ≡ true) (entries (tabulate names mark_of))
       (λ q u is. passes q u (get-entries (tabulate names mark_of) q ∙ is))
-      (true_is _ (entries_sorted (tabulate names mark_of))))
+      (is_true _ (entries_sorted (tabulate names mark_of))))

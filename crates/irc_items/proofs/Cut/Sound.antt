@@ -1,10 +1,11 @@
 -- A network is sound once a link of it is lost.
 use Rattle.std.proofs.Common.{inr, ◌≡◌, ◌≢◌, ℕ, suc, ◌+◌, ◌*◌, ◌-◌, ◌<◌, ◌≤◌, Bool, true, false}
 use Rattle.std.proofs.Common.{is_some, List, [], ◌∷◌, ◌++◌, length, count_by, refl, sym, ap, subst}
-use Rattle.std.proofs.Common.{◌∙◌, arith, inl, if◌then◌else◌}
+use Rattle.std.proofs.Common.{◌∙◌, arith, inl, if◌then◌else◌, le_of_eq}
 use Rattle.std.proofs.lemmas.List.{length-map}
 use Rattle.std.specs.FinMap.{get}
 use Rattle.std.specs.Option.{option_map_or}
+use Rattle.irc_names.specs.Lemmas.PlainFacts.{is_some-map}
 use Rattle.irc_burst_lines.specs.DeedLines.{squit_parts}
 use Rattle.irc_server.specs.DeedTold.{losses}
 use Rattle.irc_line.specs.Messages.{line_text}
@@ -44,8 +45,8 @@ use Rattle.irc_items.proofs.Common.Begun.{begins, IsGoingOn}
 use Rattle.irc_items.proofs.Common.Counting.{part_counted}
 use Rattle.irc_items.proofs.Common.Ends.{AtEnd, is_end, is_none, both_ends, is_either, which_end}
 use Rattle.irc_items.proofs.Common.FewLines.{none_at_source, none_pending}
-use Rattle.irc_items.proofs.Common.Reading.{home_is, linked_met, stays_some}
-use Rattle.irc_items.proofs.Common.Sources.{Stands, at_end, behind, aside, as_many, few_from_two}
+use Rattle.irc_items.proofs.Common.Reading.{home_is, linked_met}
+use Rattle.irc_items.proofs.Common.Sources.{Stands, at_end, behind, aside, few_from_two}
 use Rattle.irc_items.proofs.Common.Sources.{AreFew}
 use Rattle.irc_items.proofs.Common.Step.{item_sound, ComesTo}
 use Rattle.irc_items.proofs.Cut.Begins.{deeds_at, deeds, away, from_end, next_to_end, sides_of}
@@ -245,7 +246,7 @@ module _ {net new : Network} {near far : Name} (laws : AreCutLaws)
     few : AreFew (HasEnds l) left s new client (deeds laws.quiet given sides) (λ a b. 0)
         (λ a b. part_size (settings_of net) left b)
     few = record {
-      at_end = λ a b ends. as_many (ap (λ (lines : List (List ℕ)). length lines)
+      at_end = λ a b ends. le_of_eq (ap (λ (lines : List (List ℕ)). length lines)
           (none_at_source goes_on a (ap (distance left a) (source_at given a a b ends refl)
           ∙ distance_self left a)));
       next = λ t a b ends on two one.
@@ -257,7 +258,7 @@ module _ {net new : Network} {near far : Name} (laws : AreCutLaws)
           (part_size (settings_of net) left b)
           (length-map (names_behind (routes_in net a) (number s b))
           (λ x. line_text (squit_parts a x (split_text a b))) ∙ lost_behind a b ends));
-      told = λ t a b ends on. as_many
+      told = λ t a b ends on. le_of_eq
           (ap (λ (deeds : List Deed). length deeds) (deeds_at laws.quiet given sides t a b ends on)
           ∙ losses_long a b (names_behind (routes_in net a) (number s b)) ∙ lost_behind a b ends);
     }
@@ -316,7 +317,7 @@ module _ {net new : Network} {near far : Name} (laws : AreCutLaws)
   way_on : (a b : Name) → HasEnds l a b → (place : ℕ) → place ≢ number s b
       → is_some (way_at new a place) ≡ is_some (way_at net a place)
   way_on a b ends place two =
-      ap is_some (given.cut_so.way a b ends place two) ∙ stays_some
+      ap is_some (given.cut_so.way a b ends place two) ∙ is_some-map
       (λ lines. lines ++ lines_on place (parted_at net a b).out) (way_at net a place)
 
   still_there : (x y : Name) → is_some (way_at net x (number s y)) ≡ linked world.links x y

@@ -4,7 +4,7 @@ use Rattle.std.proofs.Common.{◌≡◌, ◌≢◌, ℕ, ◌+◌, ◌≤◌, suc
 use Rattle.std.proofs.Common.{is_some, Some, None, Ok, List, [], ◌∷◌, ◌++◌, codes, length}
 use Rattle.std.proofs.Common.{length-append, lit≤, map, nat_eq, option_map, arith, refl, sym, ◌∙◌}
 use Rattle.std.proofs.Common.{ap, subst, if◌then◌else◌}
-use Rattle.std.proofs.lemmas.Bool.{eq-eqb, le-leb}
+use Rattle.std.proofs.lemmas.Bool.{eq-eqb, le-leb, or_right, and_from, or_parts}
 use Rattle.std.specs.Prelude.{⊤}
 use Rattle.std.specs.Cmp.{first_so, second_so}
 use Rattle.std.specs.Cmp.Lexicographic.{bytes_decides}
@@ -23,7 +23,7 @@ use Rattle.irc_room.specs.Lemmas.Rows.{is_some_map}
 use Rattle.irc_merge.specs.Deeds.{Deed, loses}
 use Rattle.irc_merge.specs.Quits.{users_at}
 use Rattle.irc_merge.specs.Split.{are_distinct}
-use Rattle.irc_merge.specs.Lemmas.BooleanTests.{not_and, neither}
+use Rattle.irc_merge.specs.Lemmas.BooleanTests.{not_and}
 use Rattle.irc_relay.specs.Distances.{IsAmong}
 use Rattle.irc_relay.specs.Following.{Terms, Tells, nothing, by_line, all_done}
 use Rattle.irc_relay.specs.Links.{Name, Link, joined, same, toward, AreJoined, AreLinked}
@@ -51,7 +51,7 @@ use Rattle.irc_follow.specs.SideState.{ItemSetting, SideState, done, info_in, nu
 use Rattle.irc_follow.specs.SideState.{IsSoundSide}
 use Rattle.irc_follow.specs.Says.{neighbour_served, machine, play, IsDoableLoss, IsFar, Says}
 use Rattle.irc_follow.specs.Lemmas.CarriedLines.{squit_carried}
-use Rattle.irc_follow.specs.Lemmas.Neighbours.{both, met_end, HasEnd, IsKnownOfLines}
+use Rattle.irc_follow.specs.Lemmas.Neighbours.{met_end, HasEnd, IsKnownOfLines}
 use Rattle.irc_follow.specs.Lemmas.ServerLines.{all_so}
 use Rattle.irc_follow.specs.Lemmas.EffectsReadNext.{link_of, shape_at}
 use Rattle.irc_follow.specs.Lemmas.SaidDeed.{said_loses_fits}
@@ -146,12 +146,8 @@ module _ (known : IsKnownOfLines) (s : ItemSetting) (fixed : IsItemSetting s) (t
   short : are_words text ≡ true
   short = le-leb (length text) max_words doable.by_server.told.fits
 
-  or_so : (a b : Bool) → b ≡ true → (a || b) ≡ true
-  or_so true b is = refl
-  or_so false b is = is
-
   known_there : is_known other.routes name ≡ true
-  known_there = or_so (is_itself other.routes name) (is_some (row_of other.routes name))
+  known_there = or_right (is_itself other.routes name) (is_some (row_of other.routes name))
       (sym (is_some_map (λ (r : ServerRow). r.link) (row_of other.routes name))
       ∙ ap is_some (there_row name doable.can.known
       (far_is_another s t u w other next reader name doable.far)))
@@ -162,13 +158,14 @@ module _ (known : IsKnownOfLines) (s : ItemSetting) (fixed : IsItemSetting s) (t
   meant = all_so (are_words text) (may_come far_reader t
       && (not (is_known other.routes name) || is_behind_link other.routes (number s t) name))
       (is_server t && (is_server name && is_known other.routes name)) (loses t name text ∷ []) short
-      (both (may_come far_reader t) (not (is_known other.routes name)
+      (and_from (may_come far_reader t) (not (is_known other.routes name)
       || is_behind_link other.routes (number s t) name) comes
-      (or_so (not (is_known other.routes name)) (is_behind_link other.routes (number s t) name)
+      (or_right (not (is_known other.routes name)) (is_behind_link other.routes (number s t) name)
       (behind_it name doable.can.known doable.far)))
-      (both (is_server t) (is_server name && is_known other.routes name)
+      (and_from (is_server t) (is_server name && is_known other.routes name)
       (rule t doable.by_server.known)
-      (both (is_server name) (is_known other.routes name) (rule name doable.can.known) known_there))
+      (and_from (is_server name) (is_known other.routes name)
+            (rule name doable.can.known) known_there))
 
   line_back : read_of (line_text parts) ≡ Ok (message_of parts)
   line_back = sym (known.alone (line_text parts) (Ok (message_of parts))
@@ -310,7 +307,7 @@ module _ (known : IsKnownOfLines) {s : ItemSetting} {world : World} {routes : Na
       → AllByRecursion (λ x. (knows x && not (same x name)) ≡ true) names
   known_still knows name [] once all = tt
   known_still knows name (x ∷ names) once all =
-      let parts = neither (exactly_same name x) (list_any (exactly_same name) names) once in (
+      let parts = or_parts (exactly_same name x) (list_any (exactly_same name) names) once in (
         (λ i. all.0 i && not (same_unless x name (λ e. two parts.0 (sym e)) i)),
         known_still knows name names parts.1 all.1,
       )

@@ -1,10 +1,13 @@
 -- A network stays sound by each line that is delivered.
-use Rattle.std.proofs.Common.{◌≡◌, ◌≢◌, ◌⊎◌, ℕ, zero, suc, ◌+◌, ◌<◌, ◌≤◌, min, Bool, true, false}
+use Rattle.std.proofs.Common.{◌≡◌, ◌≢◌, ◌⊎◌, ℕ, zero, suc, ◌+◌, ◌<◌, ◌≤◌, Bool, true, false}
 use Rattle.std.proofs.Common.{Option, Some, None, is_some, List, [], ◌∷◌, ◌++◌, length, refl, sym}
 use Rattle.std.proofs.Common.{ap, subst, ◌∙◌, arith, inl, inr, unwrap_or, if◌then◌else◌}
 use Rattle.std.specs.Prelude.{codes}
 use Rattle.std.specs.List.{slice_get, AllByRecursion}
 use Rattle.std.specs.Option.{option_map, option_map_or}
+use Rattle.std.proofs.Math.Nat.{min-le_left}
+use Rattle.std.proofs.lemmas.Option.{same_Some}
+use Rattle.irc_names.specs.Lemmas.PlainFacts.{is_some-map}
 use Rattle.irc_link_words.specs.GreetingLines.{greeting}
 use Rattle.irc_line.specs.Messages.{line_text, nobody}
 use Rattle.irc_line.specs.Reading.{read_of}
@@ -53,7 +56,6 @@ use Rattle.irc_items.specs.Sound.{AreCalled, HasCalled, IsPlaceOf, IsSound, IsSo
 use Rattle.irc_items.proofs.Nodes.Asked.{asked_there, reply_alike, IsAskedAt}
 use Rattle.irc_items.proofs.Common.AtRest.{ends_now, flowing, forest_now, holds_now}
 use Rattle.irc_items.proofs.Common.Reading.{home_is}
-use Rattle.irc_items.proofs.Common.Reading.{stays_some}
 use Rattle.irc_items.proofs.Nodes.Delivered.{delivered_between, IsDeliveredTo}
 use Rattle.irc_items.proofs.Delivery.FirstOnWay.{goes_well}
 use Rattle.irc_items.proofs.Handshake.Greetings.{GreetingIsMet}
@@ -437,11 +439,8 @@ module _ (laws : AreDeliveryLaws) (old new : Progress Network) (sound : IsSound 
         (pending new.state old.state.names) (pending new.state new.state.names) (most_now old.state)
         (most_now new.state) counts names most few
         (subst (λ n. n ≤ old.state.taken + 1) (sym taken)
-        (min_less (old.state.taken + 1) 18446744073709551615))
+        (min-le_left (old.state.taken + 1) 18446744073709551615))
       where
-        min_less : (a b : ℕ) → min a b ≤ a
-        min_less a b = omega arith
-
         bound : (taken taken_now before now at_names most most_same : ℕ) → now < before
             → at_names ≡ now → most_same ≡ most → taken + before ≤ most → taken_now ≤ taken + 1
             → taken_now + at_names ≤ most_same
@@ -507,9 +506,6 @@ module _ (laws : AreDeliveryLaws) (old new : Progress Network) (sound : IsSound 
       by true e = good.met_stay p (met_before e)
       by false e = greeted_line line is e good.closes_none
 
-  same_some : {A : Type 0} (a b : A) → Some a ≡ Some b → a ≡ b
-  same_some a b e = cc e
-
   first_of : (a b : List ℕ) (xs ys : List (List ℕ)) → a ∷ xs ≡ b ∷ ys → a ≡ b
   first_of a b xs ys e = cc e
 
@@ -563,7 +559,7 @@ module _ (laws : AreDeliveryLaws) (old new : Progress Network) (sound : IsSound 
       by : Telling x p → Telling y t → Telling x t → HasCalled s new.state x y
       by _ _ (alike _ e) = from_taker e
       by (alike _ e) (alike _ f) (unlike _ n) = on_way before e f
-          (same_some (line ∷ d.rest)
+          (same_Some (line ∷ d.rest)
           (before ++ line_text (greeting (view_at old.state x).routes) ∷ behind)
           (sym d.waited ∙ ap (λ v. way_between old.state v t) (sym e)
           ∙ ap (λ v. way_between old.state x v) (sym f) ∙ is))
@@ -603,7 +599,7 @@ module _ (laws : AreDeliveryLaws) (old new : Progress Network) (sound : IsSound 
           ≡ b → is_some (way_at new.state x place) ≡ is_some (way_at old.state x place)
       by (alike _ e) _ _ _ =
           ap (λ v. is_some (way_at new.state v place)) e ∙ ap is_some (way_taker place)
-          ∙ stays_some (λ lines. lines ++ lines_on place after.out) (way_at old.state t place)
+          ∙ is_some-map (λ lines. lines ++ lines_on place after.out) (way_at old.state t place)
           ∙ sym (ap (λ v. is_some (way_at old.state v place)) e)
       by (unlike _ n) (alike _ e) true k =
           let at = one_number place (index_in old.state.names t) k in

@@ -1,5 +1,6 @@
 -- Lines that are taken in turn come to an end: each leaves fewer that are coming.
 use Rattle.std.proofs.Common.{◌≡◌, ℕ, zero, suc, ◌+◌, ◌<◌, ◌≤◌, Option, Some, None, refl, ap, arith}
+use Rattle.std.proofs.Common.{le_of_suc-le-suc}
 use Rattle.std.specs.Option.{option_and_then, option_map_or}
 use Rattle.irc_network.specs.Network.{Progress, Direction, Network, TakesInTurn, delivered}
 use Rattle.irc_network.specs.Network.{first_direction, lines_left, next_in_turn, none_yet, then_one}
@@ -121,10 +122,7 @@ turn_leaves_fewer few_turns most old new sound few is = by most few
         none_below n less = omega (arith, less)
     by (suc n) few =
         fewer (lines_left (suc n) new) (lines_left n new) (lines_left (suc n) old) (left n)
-        (same_left n new (below (lines_left (suc n) new) n (bound (suc n) few)))
+        (same_left n new (le_of_suc-le-suc (bound (suc n) few)))
       where
-        below : (a n : ℕ) → suc a ≤ suc n → a ≤ n
-        below a n less = omega (arith, less)
-
         fewer : (a b c : ℕ) → c ≡ suc b → a ≡ b → a < c
         fewer a b c one two = omega (arith, one, two)

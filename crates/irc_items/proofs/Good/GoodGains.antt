@@ -1,8 +1,9 @@
 -- A line that says that the network has a server more goes well at its turn: who names itself is
 -- answered with just what it is owed, and others are told.
 use Rattle.std.proofs.Common.{◌≡◌, ◌≢◌, ℕ, Bool, true, false, ◌||◌, Some, None, List, [], ◌∷◌, ◌++◌}
-use Rattle.std.proofs.Common.{append-nil, map, is_some, refl, sym, ◌∙◌, ap, if◌then◌else◌}
+use Rattle.std.proofs.Common.{append-nil, map, is_some, sym, ◌∙◌, ap, if◌then◌else◌}
 use Rattle.std.specs.Option.{option_map_or}
+use Rattle.std.proofs.Math.Bool.{or-true}
 use Rattle.irc_line.specs.Messages.{Written, line_text}
 use Rattle.irc_line.specs.Reading.{read_of}
 use Rattle.irc_burst.specs.DeedsMeant.{a_server}
@@ -126,12 +127,7 @@ module _ (s : ItemSetting) (links : List Link) (p t : Name) (w : of_side.SideSta
 
     knows_it : same p name ≡ true → later_side.tree.knows p ≡ true
     unfolding done
-    knows_it is = ap (λ b. w.tree.knows p || b) is ∙ or_true (w.tree.knows p)
-      where
-        or_true : (b : Bool) → (b || true) ≡ true
-        or_true true = refl
-        or_true false = refl
-
+    knows_it is = ap (λ b. w.tree.knows p || b) is ∙ or-true (w.tree.knows p)
     -- by a line of a server that is there
     told_there : same name p ≡ false → IsToldOn s p view (neighbour_served s p view line)
     told_there other = record {

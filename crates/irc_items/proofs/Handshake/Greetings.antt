@@ -1,12 +1,13 @@
 -- The lines of a handshake are read as they are written, and what comes of them.
 use Rattle.irc_follow.specs.Lemmas.CarriedLines.{info_carried}
 use Rattle.irc_line.specs.Lines.{IsLine}
-use Rattle.std.proofs.Common.{◌≡◌, ℕ, Bool, true, false, cond, ◌&&◌, is_some, Option, Some, None}
+use Rattle.std.proofs.Common.{◌≡◌, ℕ, Bool, true, false, cond, is_some, Option, Some, None}
 use Rattle.std.proofs.Common.{Ok, Err, List, [], ◌∷◌, refl, sym, ap, ◌∙◌, unwrap_or, lit≤}
 use Rattle.std.proofs.Common.{if◌then◌else◌}
 use Rattle.std.specs.FinMap.{get, insert}
 use Rattle.std.specs.List.{list_all}
 use Rattle.std.specs.Option.{option_map_or}
+use Rattle.std.specs.Cmp.{first_so}
 use Rattle.irc_batch.specs.Batches.{end_of_link}
 use Rattle.irc_batch.specs.declared.close_reason.CloseReason.{CloseReason}
 use Rattle.irc_batch.specs.declared.close_reason.CloseReason.TheVariants as reason
@@ -42,10 +43,6 @@ pub record IsKnownOfHandshakes : Type 0 where
   pub lines : IsKnownOfLines
   pub passwords : PassFits
   pub names : GreetingFits
-
-first_so : (a b : Bool) → (a && b) ≡ true → a ≡ true
-first_so true b is = refl
-first_so false b is = cc is
 
 -- ---- SERVER
 

@@ -1,5 +1,5 @@
 -- PASS of a handshake is read as it is written, and its password is kept.
-use Rattle.std.proofs.lemmas.Bool.{and_from}
+use Rattle.std.proofs.lemmas.Bool.{and_from, not-true}
 use Rattle.irc_line.specs.Carried.{IsCarried, is_carried_byte}
 use Rattle.irc_line.specs.Lines.{IsLine}
 use Rattle.std.proofs.Common.{◌≡◌, ◌≢◌, ℕ, Bool, true, false, cond, not, ◌&&◌, ◌||◌, Option, Some}
@@ -10,6 +10,7 @@ use Rattle.std.specs.Cmp.{first_so, second_so}
 use Rattle.std.specs.FinMap.{get, insert}
 use Rattle.std.specs.List.{list_all}
 use Rattle.std.specs.Option.{option_map_or}
+use Rattle.irc_names.specs.Lemmas.PlainFacts.{nat_eq-unlike}
 use Rattle.irc_line.specs.Bytes.{begins, has_nul, is_colon, is_space}
 use Rattle.irc_line.specs.Messages.{IsPlain, IsPlainWord, line_text, message_of}
 use Rattle.irc_line.specs.Reading.{read_of}
@@ -25,7 +26,6 @@ use Rattle.irc_server.specs.Heard.{heard, of_met, opened, password}
 use Rattle.irc_server.specs.LinkServed.{after_heard, line_served}
 use Rattle.irc_server.specs.Served.{link_says, served}
 use Rattle.irc_wire.specs.Lemmas.LinesReadBack.{command_plain}
-use Rattle.irc_follow.specs.Lemmas.MemberLines.{other_byte}
 use Rattle.irc_items.proofs.Handshake.Greetings.{IsKnownOfHandshakes}
 
 -- ---- a password is a word of a line
@@ -35,24 +35,19 @@ no_space : (bytes : List ℕ) → list_all is_ascii_graphic bytes ≡ true
 no_space [] all = refl
 no_space (byte ∷ bytes) all =
     ap (λ b. not b && list_all (λ b. not (is_space b)) bytes)
-    (other_byte is_ascii_graphic 0x20 byte refl (first_so (is_ascii_graphic byte) _ all))
+    (nat_eq-unlike is_ascii_graphic 0x20 byte refl (first_so (is_ascii_graphic byte) _ all))
     ∙ no_space bytes (second_so (is_ascii_graphic byte) _ all)
 
 no_nul : (bytes : List ℕ) → list_all is_ascii_graphic bytes ≡ true → has_nul bytes ≡ false
 no_nul [] all = refl
 no_nul (byte ∷ bytes) all =
     ap (λ b. b || has_nul bytes)
-    (other_byte is_ascii_graphic 0x00 byte refl (first_so (is_ascii_graphic byte) _ all))
+    (nat_eq-unlike is_ascii_graphic 0x00 byte refl (first_so (is_ascii_graphic byte) _ all))
     ∙ no_nul bytes (second_so (is_ascii_graphic byte) _ all)
 
 no_colon : (bytes : List ℕ) → starts_without_colon bytes ≡ true → begins is_colon bytes ≡ false
 no_colon [] starts = refl
-no_colon (byte ∷ bytes) starts = by (is_colon byte) starts
-  where
-    by : (b : Bool) → not b ≡ true → b ≡ false
-    by true fails = cc fails
-    by false so = refl
-
+no_colon (byte ∷ bytes) starts = not-true (is_colon byte) starts
 some_bytes : (bytes : List ℕ) → starts_without_colon bytes ≡ true → bytes ≢ []
 some_bytes [] starts = cc starts
 some_bytes (byte ∷ bytes) starts = λ e. cc e
@@ -73,9 +68,9 @@ graphic_carried : (bytes : List ℕ) → list_all is_ascii_graphic bytes ≡ tru
 graphic_carried [] all = refl
 graphic_carried (byte ∷ bytes) all =
     and_from (is_carried_byte byte) _
-    (by (nat_eq byte 0) (nat_eq byte 13) (nat_eq byte 10) (other_byte is_ascii_graphic 0x00 byte
-    refl graphic) (other_byte is_ascii_graphic 0x0D byte refl graphic)
-    (other_byte is_ascii_graphic 0x0A byte refl graphic))
+    (by (nat_eq byte 0) (nat_eq byte 13) (nat_eq byte 10) (nat_eq-unlike is_ascii_graphic 0x00 byte
+    refl graphic) (nat_eq-unlike is_ascii_graphic 0x0D byte refl graphic)
+    (nat_eq-unlike is_ascii_graphic 0x0A byte refl graphic))
     (graphic_carried bytes (second_so (is_ascii_graphic byte) _ all))
   where
     graphic : is_ascii_graphic byte ≡ true

@@ -5,6 +5,7 @@ use Rattle.std.proofs.Common.{subst, if◌then◌else◌}
 use Rattle.std.specs.Cmp.{first_so}
 use Rattle.std.specs.List.{list_all}
 use Rattle.std.specs.Option.{option_map_or}
+use Rattle.std.proofs.lemmas.Bool.{and_from}
 use Rattle.irc_line.specs.Messages.{IsPlain, Written, line_text, message_of}
 use Rattle.irc_line.specs.Reading.{read_of}
 use Rattle.irc_names.specs.Names.{IsServer, is_nick, is_server}
@@ -23,7 +24,7 @@ use Rattle.irc_stage.specs.View.{End, View}
 use Rattle.irc_server.specs.Heard.{heard, of_met, opened, tells}
 use Rattle.irc_wire.specs.Lemmas.LinesReadBack.{command_plain, from_plain}
 use Rattle.irc_wire.specs.Lemmas.NumberText.{number_read, number_taken}
-use Rattle.irc_follow.specs.Lemmas.Neighbours.{IsKnownOfLines, both}
+use Rattle.irc_follow.specs.Lemmas.Neighbours.{IsKnownOfLines}
 use Rattle.irc_follow.specs.Lemmas.SaidGainToldOn.{four_so, number_plain, server_so, text_no_nul}
 
 -- a server as another writes of it, with the numbers that it writes
@@ -106,7 +107,7 @@ module _ (known : IsKnownOfLines) (writer : Known) (uplink name words : List ℕ
 
   next_so : is_next_distance reader uplink links ≡ true
   next_so =
-      both (option_map_or (λ far. nat_eq links (far + 1)) (distance_of view.routes uplink) true)
+      and_from (option_map_or (λ far. nat_eq links (far + 1)) (distance_of view.routes uplink) true)
       (nat_lt links max_number) new.further new.not_last
 
   meant : deeds_meant view.room view.routes k (message_of parts)
@@ -128,7 +129,7 @@ module _ (known : IsKnownOfLines) (writer : Known) (uplink name words : List ℕ
       (number_taken (written_token writer name) number_least number_most) is.described
       (ap (is_next_distance reader uplink) distance_read ∙ next_so))
       (ap (λ n. is_none (token_in view.routes k n)) number_back ∙ ap is_none new.free) comes
-      (both (is_server uplink) (is_server name) is.uplink_named is.named) new.taken
+      (and_from (is_server uplink) (is_server name) is.uplink_named is.named) new.taken
       ∙ ap (λ n. Ok (a_server uplink name n (number_of (decimal (written_token writer name))) words
       ∷ [])) distance_read
       ∙ ap (λ n. Ok (a_server uplink name links n words ∷ [])) number_back

@@ -8,6 +8,8 @@ use Rattle.std.specs.Cmp.Lexicographic.{bytes_decides}
 use Rattle.std.specs.FinMap.{get}
 use Rattle.std.specs.List.{flat_map, list_all}
 use Rattle.std.specs.Option.{option_and_then, option_map_or}
+use Rattle.std.proofs.lemmas.Bool.{not-true}
+use Rattle.std.specs.Cmp.{second_so, first_so}
 use Rattle.irc_names.specs.Fold.{key, same}
 use Rattle.irc_names.specs.Tables.{row}
 use Rattle.irc_users.specs.declared.user.User.{User}
@@ -25,7 +27,6 @@ use Rattle.irc_room.specs.Viewers.{line_for, shows_to}
 use Rattle.irc_room.specs.Lemmas.AlikeLaw.{alike_take_alike, home_is_alike}
 use Rattle.irc_room.specs.Lemmas.HomeLaw.{home_follows}
 use Rattle.irc_room.specs.Lemmas.HomeRooms.{home_is_well_formed}
-use Rattle.irc_forest.specs.Lemmas.NewestLink.{both_one, both_other}
 use Rattle.irc_link_writer.specs.Written.{wire}
 use Rattle.irc_relay.specs.Links.{Name}
 use Rattle.irc_relay.specs.Links as of_links
@@ -98,8 +99,8 @@ module _ (t : Name) (stays : ℕ → Bool) (start : View) where
             ≡ not (option_map_or (is_home t) (row machine.room.users (key nick)) false)
         on None none =
             absurd (cc (sym (ap is_some none)
-            ∙ both_one (has_user machine.room nick) true
-            (both_other (has_user machine.room by) (has_user machine.room nick && true) there)))
+            ∙ first_so (has_user machine.room nick) true
+            (second_so (has_user machine.room by) (has_user machine.room nick && true) there)))
         on (Some user) at =
             ap (λ o. is_some (option_and_then (next_hop start.routes)
             (option_map (λ (u : User). u.home) o))) at
@@ -209,10 +210,6 @@ module _ (t : Name) (stays : ℕ → Bool) (start : View) where
           ∙ ap (shown_in machine.room effect) (staying_at stays machine.clients who)
           ∙ if_here effect (stays who) (get machine.clients who)
 
-      is_not : (b : Bool) → not b ≡ true → b ≡ false
-      is_not true one = cc one
-      is_not false one = refl
-
       shown_so : (effect : Effect) → list_all (has_user machine.room) (needs_users effect) ≡ true
           → lines_to who (shown_at (view_in machine) effect) ≡ cond (stays who)
           (shown_in machine.room effect (get machine.clients who)) []
@@ -229,7 +226,7 @@ module _ (t : Name) (stays : ℕ → Bool) (start : View) where
               (if b then [] else flat_map (to_viewer (staying stays machine.clients))
               (seen (of_home t machine.room) (Invite by nick channel)))) so
               ∙ nothing_there by nick channel
-              (is_not (is_at t machine.room.users (key nick))
+              (not-true (is_at t machine.room.users (key nick))
               (sym (invited_elsewhere by nick channel there) ∙ so)) (stays who) refl
       shown_so effect there = shown_here effect refl
 

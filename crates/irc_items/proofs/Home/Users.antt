@@ -6,6 +6,7 @@ use Rattle.std.specs.Prelude.{⊤}
 use Rattle.std.specs.Cmp.Lexicographic.{bytes_decides}
 use Rattle.std.specs.FinMap.{get}
 use Rattle.std.specs.List.{AllByRecursion}
+use Rattle.std.specs.Cmp.{first_so}
 use Rattle.irc_names.specs.Fold.{key}
 use Rattle.irc_names.specs.Fold as folded
 use Rattle.irc_names.specs.Tables.{Table, row, alter, moved}
@@ -23,7 +24,6 @@ use Rattle.irc_room.specs.Room.{Room, IsWellFormed}
 use Rattle.irc_room.specs.Lemmas.Rows.{same_some}
 use Rattle.irc_room.specs.Lemmas.WellFormedLaw.{after_is_well_formed}
 use Rattle.irc_commands.specs.Doers.{IsDoneBy}
-use Rattle.irc_forest.specs.Lemmas.NewestLink.{both_one}
 use Rattle.irc_relay.specs.Links.{Name}
 use Rattle.irc_stage.specs.declared.clients.Client.{Client}
 use Rattle.irc_stage.specs.declared.clients.Client.TheVariants.{Registering, Registered}
@@ -153,7 +153,7 @@ module _ (t : Name) where
             → IsOwnAt (after machine.room (Rename nick new)).users (key name)
         by_name was there true now = λ user at.
             new_is_own machine.room nick new step.own
-            (both_one (has_user machine.room nick) true step.possible.users_there) user
+            (first_so (has_user machine.room nick) true step.possible.users_there) user
             (ap (λ n. row (after machine.room (Rename nick new)).users (key n)) (cc now) ∙ at)
         by_name was there false now =
             own_after machine.room (Rename nick new) (key name) step.own

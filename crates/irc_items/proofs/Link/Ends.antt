@@ -1,12 +1,12 @@
 -- What a new link joins: those who were joined to one of its ends with those who were joined to the
 -- other.
-use Rattle.std.proofs.Common.{◌≡◌, ◌≢◌, ◌⊎◌, inl, inr, Bool, true, false, ◌||◌, List, ◌∷◌, refl}
+use Rattle.std.proofs.Common.{◌≡◌, ◌≢◌, ◌⊎◌, inl, inr, true, ◌||◌, List, ◌∷◌, refl}
 use Rattle.std.proofs.Common.{sym, ◌∙◌, ap}
-use Rattle.std.proofs.lemmas.Bool.{or_left, or_right}
+use Rattle.std.proofs.lemmas.Bool.{or_left, or_right, or_cases}
+use Rattle.std.specs.Cmp.{both_ways}
 use Rattle.irc_relay.specs.Links.{Name, Link, part, joined, linked, AreJoined, AreLinked, IsForest}
 use Rattle.irc_relay.specs.Links.{IsMade, within, over, back}
 use Rattle.irc_relay.specs.Lemmas.LinkTakenOut.{linked_tells, made}
-use Rattle.irc_routes.specs.Lemmas.DistinctLinks.{both_so}
 use Rattle.irc_follow.specs.Lemmas.SideAtRest.{joined_so}
 use Rattle.irc_follow.specs.Lemmas.BehindLinks.{joined_test}
 
@@ -16,10 +16,6 @@ pub record AreEnds (l : Link) (links : List Link) (a b : Name) : Type 0 where
   pub apart : AreJoined links b a → ⊥
   pub joined : (x t : Name) → AreJoined links t a
       → joined (l ∷ links) x t ≡ (joined links x a || joined links x b)
-
-either_true : (b c : Bool) → (b || c) ≡ true → (b ≡ true) ⊎ (c ≡ true)
-either_true true c so = inl refl
-either_true false c so = inr so
 
 module _ (l : Link) (links : List Link) (forest : IsForest links)
     (apart : part links l.near ≢ part links l.far) where
@@ -32,7 +28,7 @@ module _ (l : Link) (links : List Link) (forest : IsForest links)
       → AreJoined links x a ⊎ AreJoined links x b) → ((x t : Name) → AreJoined links x b
       → AreJoined links a t → AreJoined (l ∷ links) x t) → (x t : Name) → AreJoined links t a
       → joined (l ∷ links) x t ≡ (joined links x a || joined links x b)
-  of_side a b meets crossed x t here = both_so _ _ forth turn
+  of_side a b meets crossed x t here = both_ways _ _ forth turn
     where
       forth : joined (l ∷ links) x t ≡ true → (joined links x a || joined links x b) ≡ true
       forth so = elim (meets x t here (joined_so (l ∷ links) x t so)) [
@@ -41,7 +37,7 @@ module _ (l : Link) (links : List Link) (forest : IsForest links)
       ]
 
       turn : (joined links x a || joined links x b) ≡ true → joined (l ∷ links) x t ≡ true
-      turn so = elim (either_true _ _ so) [
+      turn so = elim (or_cases _ _ so) [
         | inl one ↦ joined_test (l ∷ links) x t
             ((more.kept x t (joined_so links x a one ∙ sym here)).joined)
         | inr other ↦ joined_test (l ∷ links) x t
@@ -83,7 +79,7 @@ module _ (l : Link) (links : List Link) (forest : IsForest links)
   module _ (t : Name) (not_near : AreJoined links t l.near → ⊥)
       (not_far : AreJoined links t l.far → ⊥) where
     pub aside_joined : (x : Name) → joined (l ∷ links) x t ≡ joined links x t
-    aside_joined x = both_so _ _ forth
+    aside_joined x = both_ways _ _ forth
         (λ so. joined_test (l ∷ links) x t ((more.kept x t (joined_so links x t so)).joined))
       where
         forth : joined (l ∷ links) x t ≡ true → joined links x t ≡ true
@@ -99,6 +95,6 @@ module _ (l : Link) (links : List Link) (forest : IsForest links)
     aside_linked x (inr linked) = linked
 
     pub aside_links : (x : Name) → linked (l ∷ links) t x ≡ linked links t x
-    aside_links x = both_so _ _
+    aside_links x = both_ways _ _
         (λ so. (linked_tells links t x).1 (aside_linked x ((linked_tells (l ∷ links) t x).0 so)))
         (λ so. (linked_tells (l ∷ links) t x).1 (inr ((linked_tells links t x).0 so)))

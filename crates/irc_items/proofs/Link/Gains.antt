@@ -6,6 +6,7 @@ use Rattle.std.proofs.Common.{is_some, List, [], ◌∷◌, ◌++◌, map, refl,
 use Rattle.std.specs.FinMap.{get, retain_keys}
 use Rattle.std.specs.List.{list_any, AllByRecursion}
 use Rattle.std.specs.Option.{option_map}
+use Rattle.std.proofs.Math.Bool.{or_assoc, or-false}
 use Rattle.irc_names.specs.TableLaws.{same_fold, one_fold, row-alter}
 use Rattle.irc_merge.specs.Deeds.{Deed, does, gains, kills, brings, sets, tops, after_deed}
 use Rattle.irc_merge.specs.Deeds.{after_deeds, shown_by}
@@ -115,14 +116,6 @@ pub record HasGained (rows : List ServerRow) (before after : SideState) : Type 0
   pub elsewhere : (t : Name) → before.tree.here t ≡ false
       → after.tree.routes t ≡ before.tree.routes t
 
-pub or_none : (b : Bool) → b ≡ (b || false)
-or_none true = refl
-or_none false = refl
-
-pub or_in_turn : (a b c : Bool) → ((a || b) || c) ≡ (a || (b || c))
-or_in_turn true b c = refl
-or_in_turn false b c = refl
-
 module _ (s : ItemSetting) (client : ℕ) where
   pub all_gained : (rows : List ServerRow) (w : SideState)
       → HasGained rows w (all_done (play s client) w (map gain_of rows))
@@ -131,7 +124,7 @@ module _ (s : ItemSetting) (client : ℕ) where
     forest = refl;
     here = refl;
     hall = refl;
-    knows = λ x. or_none (w.tree.knows x);
+    knows = λ x. sym (or-false (w.tree.knows x));
     keeps = λ t. keeps_itself (w.tree.routes t);
     elsewhere = λ t away. refl;
   }
@@ -142,7 +135,7 @@ module _ (s : ItemSetting) (client : ℕ) where
         forest = rest.forest;
         here = rest.here;
         hall = rest.hall;
-        knows = λ x. rest.knows x ∙ or_in_turn (w.tree.knows x) (same x r.name)
+        knows = λ x. rest.knows x ∙ or_assoc (w.tree.knows x) (same x r.name)
             (list_any (λ (other : ServerRow). same x other.name) rows);
         keeps = λ t. keeps_on (w.tree.routes t) (next.routes t) _
             (gained_keeps s.names w.tree r.uplink r.name r.info t) (rest.keeps t);

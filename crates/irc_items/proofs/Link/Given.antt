@@ -7,6 +7,8 @@ use Rattle.std.specs.Cmp.Lexicographic.{same_text}
 use Rattle.std.specs.FinMap.{get}
 use Rattle.std.specs.List.{cons_option, find, list_any, AllByRecursion}
 use Rattle.std.specs.Option.{option_map, option_map_or}
+use Rattle.std.proofs.lemmas.Option.{same_Some}
+use Rattle.irc_routes.specs.Lemmas.NumberedRows.{map_none}
 use Rattle.irc_batch.specs.Batches.{end_of_link}
 use Rattle.irc_batch.specs.declared.close_reason.CloseReason.TheVariants as reason
 use Rattle.irc_link_words.specs.Passwords.{is_password}
@@ -99,11 +101,8 @@ is_word_for view name word all is = by (find (is_named name) view.peers) refl
     by (Some peer) e =
         let f : Some peer.password ≡ Some word =
         sym (ap (option_map (λ (peer : KnownPeer). peer.password)) e) ∙ is in
-        sym (ap is_password (one f)) ∙ found_so HasPassword (is_named name) view.peers peer all e
-      where
-        one : {A : Type 0} {x y : A} → Some x ≡ Some y → x ≡ y
-        one same_one = cc same_one
-
+        sym (ap is_password (same_Some _ _ f))
+            ∙ found_so HasPassword (is_named name) view.peers peer all e
 -- the word that both have
 record IsShared (one other : Option (List ℕ)) : Type 0 where
   pub word : List ℕ
@@ -238,10 +237,6 @@ nothing_more (Some lines) = ap Some (append-nil lines)
 
 -- ---- the link is made
 
-no_far : {A B : Type 0} (f : A → B) (o : Option A) → option_map f o ≡ None → o ≡ None
-no_far f None e = refl
-no_far f (Some x) e = absurd (cc e)
-
 module _ (stays : ServedKeepsItsSetting) (net : Network) (sound : IsSound net)
     (room : IsOneRoom net) (near far : Name) (m : IsMeeting net near far) where
   abbrev p : ℕ
@@ -261,7 +256,7 @@ module _ (stays : ServedKeepsItsSetting) (net : Network) (sound : IsSound net)
   no_end : (a b : Name) → IsAmong net.names a → IsAmong net.names b
       → part net.links a ≢ part net.links b → get (view_at net a).ends (index_in net.names b) ≡ None
   no_end a b here there_too apart =
-      no_far far_of (get (view_at net a).ends (index_in net.names b))
+      map_none far_of (get (view_at net a).ends (index_in net.names b))
       ((room.servers a here).ends b there_too
       ∙ ap (λ c. if c then Some (if joined (world_now net).links b a then Some b else None)
       else None)

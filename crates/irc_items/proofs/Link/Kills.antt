@@ -9,6 +9,7 @@ use Rattle.std.specs.FinMap.{get, entries, entries_sorted, values, find, is_sort
 use Rattle.std.specs.FinMap.Entries.{below_all}
 use Rattle.std.specs.List.{flat_map, AllByRecursion}
 use Rattle.std.specs.Option.{option_and_then, option_map_or}
+use Rattle.irc_names.specs.Lemmas.PlainFacts.{is_true}
 use Rattle.irc_channels.specs.declared.flags.Flags.{Flags}
 use Rattle.irc_merge.specs.BurstRead.{introduced, new_members, brought, some_far, read_deed}
 use Rattle.irc_merge.specs.BurstRead.{read_all}
@@ -17,7 +18,7 @@ use Rattle.irc_merge.specs.Deeds.{Deed, does, kills, brings, sets, tops, titled,
 use Rattle.irc_merge.specs.Deeds.{after_deed, after_deeds, shown_by, shown_by_all}
 use Rattle.irc_merge.specs.Lemmas.Introducing.{met, met_by, is_met, met_well, introductions}
 use Rattle.irc_merge.specs.Lemmas.Introducing.{other_met}
-use Rattle.irc_merge.specs.Lemmas.TableWords.{true_is, absent}
+use Rattle.irc_merge.specs.Lemmas.TableWords.{absent}
 use Rattle.irc_merge.specs.Quits.{collision_text}
 use Rattle.irc_merge.specs.ShownAlong.{shown_along}
 use Rattle.irc_names.specs.Fold.{key, same}
@@ -443,5 +444,5 @@ burst_fares own server far room other well well_other viewer mine at =
     (sym (get-entries other.users (key viewer)))
     (fares_from viewer own far (flat_map (channel_deeds server other.users) (values other.channels))
     (deeds_of_channels server other.users (values other.channels))
-    (entries other.users) (true_is _ (entries_sorted other.users))
+    (entries other.users) (is_true _ (entries_sorted other.users))
     (table_named other.users well_other.users_named) room well mine at)

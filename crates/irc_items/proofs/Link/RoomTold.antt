@@ -4,8 +4,9 @@ use Rattle.std.proofs.Common.{◌≡◌, ◌≢◌, ◌⊎◌, inl, inr, ℕ, Bo
 use Rattle.std.proofs.Common.{Option, Some, None, List, [], ◌∷◌, ◌++◌, map, nat_eq, refl, sym, ◌∙◌}
 use Rattle.std.proofs.Common.{ap, subst, option_map, if◌then◌else◌}
 use Rattle.std.proofs.Math.Path.{fun_ext}
-use Rattle.std.proofs.lemmas.Bool.{eq-eqb, eqb-true}
+use Rattle.std.proofs.lemmas.Bool.{eq-eqb, eqb-true, or_right}
 use Rattle.std.specs.Option.{option_map_or}
+use Rattle.std.proofs.Math.Bool.{or-true}
 use Rattle.irc_channels.specs.declared.flags.Flags.{Flags}
 use Rattle.irc_modes.specs.declared.modes.ModeChange.{ModeChange}
 use Rattle.irc_line.specs.Messages.{line_text}
@@ -94,12 +95,7 @@ module _ (laws : AreRoomLaws) {s : ItemSetting} {l : Link} {world : World} {rout
 
   b_known : knows b ≡ true
   b_known =
-      ap (λ c. joined links b t || c) (joined_test links b b refl) ∙ or_true (joined links b t)
-    where
-      or_true : (c : Bool) → (c || true) ≡ true
-      or_true true = refl
-      or_true false = refl
-
+      ap (λ c. joined links b t || c) (joined_test links b b refl) ∙ or-true (joined links b t)
   t_apart : AreJoined links t b → ⊥
   t_apart = (over laws.sides is).apart
 
@@ -302,12 +298,7 @@ module _ (laws : AreRoomLaws) {s : ItemSetting} {l : Link} {world : World} {rout
         home_far = is.holds.homes_joined b (key user.nick) user told.told.there
 
         home_known : knows user.home ≡ true
-        home_known = by (joined links user.home t) (far user.home) home_far
-          where
-            by : (c d : Bool) → d ≡ true → (c || d) ≡ true
-            by true d e = refl
-            by false d e = e
-
+        home_known = or_right (joined links user.home t) (far user.home) home_far
         their_limits : IsWithinLimits (of_home b their_room)
         their_limits = (alike_keep_limits (of_home b their_room) their_room
             (home_is_alike b their_room)).1 within_there

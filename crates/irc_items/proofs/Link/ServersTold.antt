@@ -4,6 +4,8 @@ use Rattle.std.proofs.Common.{sym, ◌∙◌, ap, subst}
 use Rattle.std.proofs.lemmas.Bool.{and_parts, and_from, eqb-true}
 use Rattle.std.specs.Cmp.Lexicographic.{bytes_decides}
 use Rattle.std.specs.List.{list_any}
+use Rattle.std.proofs.Math.Bool.{and-true, or-false}
+use Rattle.std.specs.Cmp.{both_ways}
 use Rattle.irc_relay.specs.Distances.{EndsAreAmong, IsAmong}
 use Rattle.irc_relay.specs.Links.{Name, same, Link, joined, part, toward, AreJoined, IsForest}
 use Rattle.irc_relay.specs.Lemmas.TellingNames.{Telling, alike, unlike, tell, same_unless}
@@ -12,14 +14,13 @@ use Rattle.irc_relay.specs.Lemmas.NextHops.{linked_back, linked_joined, next_hop
 use Rattle.irc_routes.specs.declared.server_row.ServerRow.{ServerRow}
 use Rattle.irc_routes.specs.Known.{Known, is_behind, others, servers_told}
 use Rattle.irc_routes.specs.Lemmas.TableRows.{row_passes, some_stands}
-use Rattle.irc_routes.specs.Lemmas.DistinctLinks.{both_so}
 use Rattle.irc_follow.specs.AtRest.{AreRight}
 use Rattle.irc_follow.specs.SideState.{ItemSetting, info_in, number}
 use Rattle.irc_follow.specs.Tree.{Shape, shape, shape_in}
 use Rattle.irc_follow.specs.Lemmas.SideAtRest.{joined_so}
 use Rattle.irc_follow.specs.Lemmas.BehindLinks.{joined_test, row_is_there, row_says}
 use Rattle.irc_follow.specs.Lemmas.PlacesOfNames.{one_place}
-use Rattle.irc_follow.specs.Lemmas.ToldServers.{any_filtered, any_told, or_none}
+use Rattle.irc_follow.specs.Lemmas.ToldServers.{any_filtered, any_told}
 
 -- b tells a, which it is not joined to
 module _ (s : ItemSetting) (links : List Link) (routes : Name → Known) (b a x : Name)
@@ -34,7 +35,7 @@ module _ (s : ItemSetting) (links : List Link) (routes : Name → Known) (b a x 
   as_rows =
       any_told (λ r. same x r.name) []
       (filter (λ r. not (is_behind (number s a) r)) (others (routes b)))
-      ∙ or_none (list_any (λ r. same x r.name)
+      ∙ or-false (list_any (λ r. same x r.name)
       (filter (λ r. not (is_behind (number s a) r)) (others (routes b))))
       ∙ any_filtered (λ r. same x r.name) (λ r. not (is_behind (number s a) r)) (others (routes b))
 
@@ -76,18 +77,15 @@ module _ (s : ItemSetting) (links : List Link) (routes : Name → Known) (b a x 
 
   told_are_others : list_any (λ (r : ServerRow). same x r.name)
       (servers_told (routes b) (number s a)) ≡ (joined links x b && not (same x b))
-  told_are_others = as_rows ∙ both_so _ _ forth (back_from (tell x b) (joined links x b) refl)
+  told_are_others = as_rows ∙ both_ways _ _ forth (back_from (tell x b) (joined links x b) refl)
 
   -- with b itself they are all that are joined to it
   pub told_are_that_side : (same x b || list_any (λ (r : ServerRow). same x r.name)
       (servers_told (routes b) (number s a))) ≡ joined links x b
   told_are_that_side = ap (λ c. same x b || c) told_are_others ∙ by (tell x b)
     where
-      all_of : (c : Bool) → (c && true) ≡ c
-      all_of true = refl
-      all_of false = refl
-
       by : Telling x b → (same x b || (joined links x b && not (same x b))) ≡ joined links x b
       by (alike is e) = ap (λ c. c || (joined links x b && not c)) is
           ∙ sym (joined_test links x b (ap (λ y. part links y) e))
-      by (unlike is two) = ap (λ c. c || (joined links x b && not c)) is ∙ all_of (joined links x b)
+      by (unlike is two) =
+          ap (λ c. c || (joined links x b && not c)) is ∙ and-true (joined links x b)

@@ -13,6 +13,7 @@ use Rattle.std.specs.Cmp.Lexicographic.{bytes_decides}
 use Rattle.std.specs.FinMap.{get}
 use Rattle.std.specs.List.{list_any}
 use Rattle.std.specs.Option.{option_map_or}
+use Rattle.std.proofs.Math.Bool.{or-true, or_assoc, or-false}
 use Rattle.irc_batch.specs.declared.close_reason.CloseReason.TheVariants as reason
 use Rattle.irc_line.specs.Messages.{line_text}
 use Rattle.irc_line.specs.Reading.{read_of}
@@ -67,14 +68,12 @@ use Rattle.irc_follow.specs.Lemmas.Neighbours.{HasEnd, met_end}
 use Rattle.irc_follow.specs.Lemmas.EffectsReadNext.{distance_at, link_of, shape_at}
 use Rattle.irc_follow.specs.Lemmas.SaidGain.{said_gain_fits}
 use Rattle.irc_follow.specs.Lemmas.SaidGainToldOn.{low_distance, low_number, low_token_number}
-use Rattle.irc_follow.specs.Lemmas.SaidGainToldOn.{or_true}
 use Rattle.irc_follow.specs.Lemmas.TreeGains as tree_of
 use Rattle.irc_items.specs.GoodLines.{Answering}
 use Rattle.irc_items.proofs.Burst.Collisions.{answers_of, count_but_first, introduces}
 use Rattle.irc_items.proofs.Burst.Collisions.{pass_introduces_nobody}
 use Rattle.irc_items.proofs.Good.GoodLines.{AsideWell, IsWithinSide, SaysWell, good_terms}
 use Rattle.irc_items.proofs.Handshake.Greetings.{IsKnownOfHandshakes, heard_is, greeting_is_line}
-use Rattle.irc_items.proofs.Link.Gains.{or_in_turn, or_none}
 use Rattle.irc_items.proofs.Link.Over.{over_link, way_over, IsOver}
 use Rattle.irc_items.proofs.Link.Rooms.{AreRooms}
 use Rattle.irc_items.proofs.Link.ServersTold.{told_are_that_side}
@@ -336,7 +335,7 @@ module _ (known : IsKnownOfSides) {s : ItemSetting} {l : Link} {world : World}
         known_there =
             ap (λ (k : Known). is_known k r.name) at_b
             ∙ ap (λ (o : Option ServerRow). is_itself (routes b) r.name || is_some o) next.there
-            ∙ or_true (is_itself (routes b) r.name)
+            ∙ or-true (is_itself (routes b) r.name)
 
         r_doable : IsDoableGain s w r.uplink r.name r.info
         r_doable =
@@ -513,7 +512,7 @@ module _ (known : IsKnownOfSides) {s : ItemSetting} {l : Link} {world : World}
       (subst (λ now. Fits s t (moment now known_at hall) view) (sym none_more) fits))
     where
       none_more : knows_also knows [] ≡ knows
-      none_more = fun_ext (λ x. sym (or_none (knows x)))
+      none_more = fun_ext (λ x. sym (sym (or-false (knows x))))
   tell_rows client (r ∷ rows) knows known_at hall view at_b b_known fits next deeds lines more =
       let says = r_says knows known_at hall view fits at_b b_known r next.0 in
       by_line says
@@ -527,7 +526,7 @@ module _ (known : IsKnownOfSides) {s : ItemSetting} {l : Link} {world : World}
       deeds lines (subst (λ now. IsToldThen client now hall deeds lines) one_more more))
     where
       one_more : knows_also knows (r ∷ rows) ≡ knows_also (λ x. knows x || same x r.name) rows
-      one_more = fun_ext (λ x. sym (or_in_turn (knows x) (same x r.name)
+      one_more = fun_ext (λ x. sym (or_assoc (knows x) (same x r.name)
           (list_any (λ (q : ServerRow). same x q.name) rows)))
 
   abbrev knows_first : Name → Bool
@@ -575,12 +574,12 @@ module _ (known : IsKnownOfSides) {s : ItemSetting} {l : Link} {world : World}
       ends_there x y near = fits.sound.tree.ends x y (inr near)
 
       b_known : (joined links b t || same b b) ≡ true
-      b_known = ap (λ c. joined links b t || c) (same_when b b refl) ∙ or_true (joined links b t)
+      b_known = ap (λ c. joined links b t || c) (same_when b b refl) ∙ or-true (joined links b t)
 
       all_known : knows_also (λ x. joined links x t || same x b)
           (servers_told (routes b) (number s t)) ≡ knows_all
       all_known = fun_ext (λ x.
-          or_in_turn (joined links x t) (same x b)
+          or_assoc (joined links x t) (same x b)
           (list_any (λ (q : ServerRow). same x q.name) (servers_told (routes b) (number s t)))
           ∙ ap (λ c. joined links x t || c) (told_are_that_side s links routes b t x is.forest.1
           ends_there is.right is.b_among (λ j. over.apart (sym j))))

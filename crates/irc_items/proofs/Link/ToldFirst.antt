@@ -4,7 +4,7 @@ use Rattle.std.proofs.Common.{◌≡◌, ◌≢◌, ◌⊎◌, inl, inr, ℕ, �
 use Rattle.std.proofs.Common.{not, ◌&&◌, ◌||◌, Some, List, [], ◌∷◌, ◌++◌, map, filter, nat_eq}
 use Rattle.std.proofs.Common.{nat_lt, refl, sym, ◌∙◌, ap, subst, arith, append_assoc}
 use Rattle.std.specs.Prelude.{⊤}
-use Rattle.std.proofs.lemmas.Bool.{and_parts, eqb-true}
+use Rattle.std.proofs.lemmas.Bool.{and_parts, eqb-true, or_right}
 use Rattle.std.proofs.lemmas.Bool.Decides.{nat_tests}
 use Rattle.std.specs.Cmp.{tied_itself}
 use Rattle.std.specs.Cmp.Lexicographic.{nat_list_cmp_total}
@@ -12,6 +12,8 @@ use Rattle.std.specs.FinMap.{entries, entries_sorted, is_sorted, get-entries}
 use Rattle.std.specs.FinMap.Entries.{below_all, find}
 use Rattle.std.specs.List.{fold, insert, list_any, prefix_len, AllByRecursion}
 use Rattle.std.specs.Ordering.{is_lt}
+use Rattle.std.proofs.Math.Bool.{or-false}
+use Rattle.irc_names.specs.Lemmas.PlainFacts.{is_true}
 use Rattle.irc_names.specs.Tables.{Table, row, fold_cmp}
 use Rattle.irc_tables.specs.FoldedRows.{IsInFoldedOrder}
 use Rattle.irc_tables.specs.Lemmas.OrderedEntries.{find-there, sorted-below}
@@ -24,14 +26,14 @@ use Rattle.irc_room.specs.Lemmas.Rows.{same_some}
 use Rattle.irc_routes.specs.declared.server_row.ServerRow.{ServerRow}
 use Rattle.irc_routes.specs.Known.{Known, is_behind, is_told_before, others, put_among, row_of}
 use Rattle.irc_routes.specs.Known.{servers_told, IsNumbered}
-use Rattle.irc_routes.specs.Lemmas.TableRows.{row_passes, told}
+use Rattle.irc_routes.specs.Lemmas.TableRows.{row_passes}
 use Rattle.irc_follow.specs.AtRest.{by_distance, AreRight}
 use Rattle.irc_follow.specs.SideState.{ItemSetting, info_in, number}
 use Rattle.irc_follow.specs.Tree.{Shape, shape, shape_in}
 use Rattle.irc_follow.specs.Lemmas.BehindLinks.{row_is_there, row_says, RowIsThere, RowSays}
 use Rattle.irc_follow.specs.Lemmas.PlacesOfNames.{one_place}
 use Rattle.irc_follow.specs.Lemmas.ToldInTurn.{before_is, told_by_distance}
-use Rattle.irc_follow.specs.Lemmas.ToldServers.{any_filtered, any_told, or_none}
+use Rattle.irc_follow.specs.Lemmas.ToldServers.{any_filtered, any_told}
 
 -- ---- what is told of are rows
 
@@ -47,7 +49,7 @@ module _ {X : Type 0} (table : Table X) where
         ∙ ap (find fold_cmp e.0) is
         ∙ find-there nat_list_cmp_total e.0 e.1 front back
         (sorted-below nat_list_cmp_total e.0 e.1 front back
-        (ap (is_sorted fold_cmp) (sym is) ∙ told _ (entries_sorted table))),
+        (ap (is_sorted fold_cmp) (sym is) ∙ is_true _ (entries_sorted table))),
     each_behind (front ++ e ∷ []) back (is ∙ sym (append_assoc front (e ∷ []) back)),
   )
 
@@ -186,15 +188,11 @@ module _ (s : ItemSetting) (links : List Link) (routes : Name → Known) (b : Na
       → AreCovered knows (r ∷ rows) → AreCovered (λ x. knows x || same x r.name) rows
   covered_now knows r rows covered x joined = by (covered x joined) (tell x r.name)
     where
-      or_so : (c d : Bool) → d ≡ true → (c || d) ≡ true
-      or_so true d is = refl
-      or_so false d is = is
-
       by : (knows x ≡ true) ⊎ ((same x r.name || list_any (is_named x) rows) ≡ true)
           → Telling x r.name → ((knows x || same x r.name) ≡ true)
           ⊎ (list_any (is_named x) rows ≡ true)
       by (inl so) _ = inl (ap (λ c. c || same x r.name) so)
-      by (inr any) (alike z _) = inl (or_so (knows x) (same x r.name) z)
+      by (inr any) (alike z _) = inl (or_right (knows x) (same x r.name) z)
       by (inr any) (unlike z _) = inr (sym (ap (λ c. c || list_any (is_named x) rows) z) ∙ any)
 
   -- the server that it is linked to is nearer
@@ -277,7 +275,7 @@ module _ (s : ItemSetting) (links : List Link) (routes : Name → Known) (b : Na
         → list_any (is_named x) (servers_told known (number s t)) ≡ true
     told_of x joined two =
         any_told (is_named x) [] (filter (λ r. not (is_behind (number s t) r)) (others known))
-        ∙ or_none
+        ∙ or-false
         (list_any (is_named x) (filter (λ r. not (is_behind (number s t) r)) (others known)))
         ∙ any_filtered (is_named x) (λ r. not (is_behind (number s t) r)) (others known)
         ∙ row_passes (λ r. not (is_behind (number s t) r)

@@ -3,6 +3,7 @@ use Rattle.std.proofs.Common.{◌≡◌, ℕ, ◌+◌, min, Bool, true, false, c
 use Rattle.std.proofs.Common.{is_some, List, [], ◌∷◌, refl, sym, ap, ◌∙◌, unwrap_or}
 use Rattle.std.specs.FinMap.{get}
 use Rattle.std.specs.Option.{option_and_then}
+use Rattle.std.proofs.lemmas.Option.{same_Some}
 use Rattle.irc_line.specs.Reading.{read_of}
 use Rattle.irc_relay.specs.Distances.{IsAmong}
 use Rattle.irc_relay.specs.Lemmas.TellingNames.{Telling, alike, unlike, tell}
@@ -140,9 +141,6 @@ pub delivered_between : (old : Progress Network) → IsSound old.state
 unfolding delivered
 delivered_between old sound from to new is = by (node_at old.state from) refl
   where
-    same_some : {A : Type 0} (a b : A) → Some a ≡ Some b → a ≡ b
-    same_some a b e = cc e
-
     taken : (node : Node) (p : IsPlaceOf old.state from) (t : IsPlaceOf old.state to)
         → node_at old.state from ≡ Some node → (line : List ℕ) (rest : List (List ℕ))
         → waiting node to ≡ line ∷ rest → taken_of from to old node (line ∷ rest) ≡ Some new
@@ -154,7 +152,7 @@ delivered_between old sound from to new is = by (node_at old.state from) refl
       delivered_to = delivered_so old sound.set_up p.server t.server p.among t.among line rest
           (ap (λ place. waiting (there old.state sound.set_up p.server p.among).node place) t.is
           ∙ ap (λ (s : Node). waiting s to) (sym one_node) ∙ waited) new
-          (sym (same_some _ new e) ∙ ap (λ (s : Node). node_asked to (link_says from (read_of line))
+          (sym (same_Some _ new e) ∙ ap (λ (s : Node). node_asked to (link_says from (read_of line))
           (record old { state = line_counted (with_node from (left to rest s) old.state) }))
           one_node
           ∙ ap (λ n. node_asked to (link_says n (read_of line))
@@ -171,7 +169,7 @@ delivered_between old sound from to new is = by (node_at old.state from) refl
     }
       where
         one_node : node ≡ (there old.state sound.set_up p.server p.among).node
-        one_node = same_some node (there old.state sound.set_up p.server p.among).node
+        one_node = same_Some node (there old.state sound.set_up p.server p.among).node
             (sym is_node ∙ ap (node_at old.state) (sym p.is)
             ∙ (there old.state sound.set_up p.server p.among).is_node)
 

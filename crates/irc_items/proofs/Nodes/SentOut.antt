@@ -1,12 +1,13 @@
 -- What becomes of a network by what one of its servers puts out: lines wait behind the others on
 -- its ways, and are received behind all else.
 use Rattle.std.proofs.Common.{◌≡◌, ℕ, zero, suc, Bool, true, false, cond, nat_eq, Option, Some}
-use Rattle.std.proofs.Common.{None, List, [], ◌∷◌, ◌++◌, append-nil, append_assoc, arith, length}
+use Rattle.std.proofs.Common.{None, List, [], ◌∷◌, ◌++◌, append-nil, append_assoc, length}
 use Rattle.std.proofs.Common.{refl, sym, ◌∙◌, ap, subst, if◌then◌else◌, option_map}
-use Rattle.std.proofs.lemmas.Bool.{eq-eqb, eqb-true}
+use Rattle.std.proofs.lemmas.Bool.{eq-eqb, eqb-true, true≢false}
 use Rattle.std.specs.FinMap.{get, insert}
 use Rattle.std.specs.List.{filter_map, cons_option, slice_get, slice_set}
 use Rattle.std.specs.Option.{option_map_or}
+use Rattle.std.proofs.Math.Nat.{suc_inj}
 use Rattle.irc_batch.specs.Batches.{Sent, line_to, end_of, line_on, end_of_link}
 use Rattle.irc_stage.specs.Lemmas.Numbers.{get-with, one_number, same_number, same_number-is}
 use Rattle.irc_server.specs.Owed.{line_to_conn as line_to_for, lines_to}
@@ -30,14 +31,6 @@ pub record IsSentOut (place : ℕ) (out : List Sent) (node : Node)
   pub received : (earlier : ℕ) → slice_get new.state.received earlier
       ≡ option_map (λ lines. lines ++ lines_to (suc earlier) out)
       (slice_get old.state.received earlier)
-
--- ---- numbers
-
-one_less : (m n : ℕ) → suc m ≡ suc n → m ≡ n
-one_less m n e = omega (arith, e)
-
-unlike : true ≡ false → ⊥
-unlike e = absurd (cc e)
 
 -- ---- lines behind others
 
@@ -96,7 +89,7 @@ not_it received earlier text none other = by (nat_eq (suc earlier) (suc other)) 
         ≡ option_map (λ lines. lines ++ if_there b text) (slice_get received other)
     by true one = none_either (text ∷ []) (slice_get received other)
         (ap (slice_get received)
-        (sym (one_less earlier other (eqb-true (suc earlier) (suc other) one))) ∙ none)
+        (sym (suc_inj (eqb-true (suc earlier) (suc other) one))) ∙ none)
     by false two = nothing_behind [] refl (slice_get received other)
 
 it_is : (received : List (List (List ℕ))) (earlier : ℕ) (text : List ℕ) (lines : List (List ℕ))
@@ -110,14 +103,14 @@ it_is received earlier text lines is other = by (nat_eq (suc earlier) (suc other
         → slice_get (slice_set received earlier (lines ++ text ∷ [])) other
         ≡ option_map (λ before. before ++ if_there b text) (slice_get received other)
     by true one =
-        let e = one_less earlier other (eqb-true (suc earlier) (suc other) one) in
+        let e = suc_inj (eqb-true (suc earlier) (suc other) one) in
         ap (slice_get (slice_set received earlier (lines ++ text ∷ []))) (sym e)
         ∙ set_there received earlier lines (lines ++ text ∷ []) is
         ∙ sym
         (ap (option_map (λ before. before ++ text ∷ [])) (ap (slice_get received) (sym e) ∙ is))
     by false two =
         set_other received earlier other (lines ++ text ∷ [])
-        (λ e. unlike (sym (eq-eqb (suc earlier) (suc other) (ap suc (sym e))) ∙ two))
+        (λ e. true≢false (sym (eq-eqb (suc earlier) (suc other) (ap suc (sym e))) ∙ two))
         ∙ nothing_behind [] refl (slice_get received other)
 
 abbrev on_way : ℕ → List ℕ → ℕ → List (List ℕ)
@@ -146,9 +139,9 @@ a_way to text node lines is other = get-with node.queues to (lines ++ line_body 
     by true one true also = sym (ap (option_map (λ before. before ++ line_body text ∷ []))
         (ap (get node.queues) (sym (eqb-true to other one)) ∙ is))
     by true one false not_one =
-        absurd (unlike (sym (same_number-is other to (sym (eqb-true to other one))) ∙ not_one))
+        absurd (true≢false (sym (same_number-is other to (sym (eqb-true to other one))) ∙ not_one))
     by false two true one =
-        absurd (unlike (sym (eq-eqb to other (sym (one_number other to one))) ∙ two))
+        absurd (true≢false (sym (eq-eqb to other (sym (one_number other to one))) ∙ two))
     by false two false also = nothing_behind [] refl (get node.queues other)
 
 ways_queued : (to : ℕ) (text : List ℕ) (node : Node) (other : ℕ)

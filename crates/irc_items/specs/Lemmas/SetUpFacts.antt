@@ -2,12 +2,14 @@
 use Rattle.std.proofs.Common.{◌≡◌, ◌≢◌, ℕ, zero, suc, ◌+◌, ◌<◌, Bool, true, false, cond, not, ◌||◌}
 use Rattle.std.proofs.Common.{Option, Some, None, is_some, unwrap_or, List, [], ◌∷◌, map, length}
 use Rattle.std.proofs.Common.{count_by, refl, sym, ◌∙◌, ap, subst, arith, ltb, ◌≤◌, if◌then◌else◌}
+use Rattle.std.proofs.Common.{le_of_eq, one-add}
 use Rattle.std.proofs.lemmas.Bool.{le-ltb, lt-ltb, or_parts}
 use Rattle.std.proofs.lemmas.List.{length-map}
 use Rattle.std.proofs.lemmas.List.Sums.{sum_by-cons}
-use Rattle.std.proofs.lemmas.Option.{slice_get-map, slice_get_past}
+use Rattle.std.proofs.lemmas.Option.{slice_get-map, slice_get_past, same_Some, none-some}
 use Rattle.std.specs.List.{cons_option, filter_map, list_any, position_or_len, slice_get}
 use Rattle.std.specs.Option.{option_and_then, option_map, option_map_or}
+use Rattle.std.proofs.Math.Bool.{or-true}
 use Rattle.irc_forest.specs.Forests.{place_in as place_found}
 use Rattle.irc_relay.specs.Distances.{IsAmong}
 use Rattle.irc_relay.specs.Links.{Name, same}
@@ -82,9 +84,6 @@ as_searched : (names : List Name) (a : Name)
 as_searched [] a = refl
 as_searched (first ∷ names) a = by (same first a) refl (as_searched names a)
   where
-    one_more : (k : ℕ) → 1 + k ≡ suc k
-    one_more k = omega arith
-
     by : (b : Bool) → same first a ≡ b → position_or_len (λ (known : Name). same known a) names
         ≡ index_in names a → position_or_len (λ (known : Name). same known a) (first ∷ names)
         ≡ index_in (first ∷ names) a
@@ -93,7 +92,7 @@ as_searched (first ∷ names) a = by (same first a) refl (as_searched names a)
         ∙ sym (place_is first a names true is)
     by false is rest =
         ap (λ b. cond (not b) (1 + position_or_len (λ (known : Name). same known a) names) 0) is
-        ∙ one_more (position_or_len (λ (known : Name). same known a) names) ∙ ap suc rest
+        ∙ one-add (position_or_len (λ (known : Name). same known a) names) ∙ ap suc rest
         ∙ sym (place_is first a names false is)
 
 found : (names : List Name) (a : Name) → place_found names a
@@ -130,12 +129,6 @@ placed_if names a = by (list_any (same a) names) refl
 
 abbrev some_name : Name → Option Name
 some_name name = Some name
-
-one_name : {X : Type 0} {x y : X} → Some x ≡ Some y → x ≡ y
-one_name e = cc e
-
-not_named : {A B : Type 0} {x : A} → None ≡ Some x → B
-not_named e = absurd (cc e)
 
 -- nodes stand in the order of the names
 named_here : (net : Network) → IsSetUp net → (place : ℕ)
@@ -181,20 +174,20 @@ there net set_up server among = by_node (node_at net (index_in net.names server)
           is_node = at;
           is_view = is ∙ ap Some (sym seen);
           named = ap (λ (v : View). v.routes.name) seen
-              ∙ one_name (one_name (sym (ap (option_map named_at) at
-              ∙ ap (λ o. Some (option_map (λ (v : View). v.routes.name) o)) is) ∙ given));
+              ∙ same_Some _ _ (same_Some _ _ (sym (ap (option_map named_at) at
+                        ∙ ap (λ o. Some (option_map (λ (v : View). v.routes.name) o)) is) ∙ given));
         }
 
     by_view : (node : Node) → node_at net (index_in net.names server) ≡ Some node
         → (o : Option View) → node.server ≡ o → IsThere net server
     by_view node at (Some view) is = of_view node at view is
     by_view node at None is =
-        not_named (one_name (sym (ap (option_map named_at) at
-        ∙ ap (λ o. Some (option_map (λ (v : View). v.routes.name) o)) is) ∙ given))
+        absurd (none-some _ (same_Some _ _ (sym (ap (option_map named_at) at
+                    ∙ ap (λ o. Some (option_map (λ (v : View). v.routes.name) o)) is) ∙ given)))
 
     by_node : (o : Option Node) → node_at net (index_in net.names server) ≡ o → IsThere net server
     by_node (Some node) at = by_view node at node.server refl
-    by_node None at = not_named (sym (ap (option_map named_at) at) ∙ given)
+    by_node None at = absurd (none-some _ (sym (ap (option_map named_at) at) ∙ given))
 
 -- what is found under its name
 pub viewed : (net : Network) → IsSetUp net → (server : Name) → IsAmong net.names server
@@ -213,16 +206,11 @@ nowhere net server not_among =
 
 pub among_at : (names : List Name) (a : Name) (place : ℕ) → slice_get names place ≡ Some a
     → IsAmong names a
-among_at [] a place is = not_named is
+among_at [] a place is = absurd (none-some _ is)
 among_at (first ∷ names) a zero is =
-    ap (λ b. b || list_any (same a) names) (same_when a first (sym (one_name is)))
+    ap (λ b. b || list_any (same a) names) (same_when a first (sym (same_Some _ _ is)))
 among_at (first ∷ names) a (suc place) is =
-    ap (λ b. same a first || b) (among_at names a place is) ∙ or_true (same a first)
-  where
-    or_true : (b : Bool) → (b || true) ≡ true
-    or_true true = refl
-    or_true false = refl
-
+    ap (λ b. same a first || b) (among_at names a place is) ∙ or-true (same a first)
 counted_once : (names : List Name) (a : Name) → IsAmong names a → 0 < count_by (same a) names
 counted_once [] a among = cc among
 counted_once (first ∷ names) a among = by (same a first) refl (counted_once names a)
@@ -249,9 +237,9 @@ counted_once (first ∷ names) a among = by (same a first) refl (counted_once na
 -- a name that is there once is at one place
 pub only_place : (names : List Name) (a : Name) (place : ℕ) → count_by (same a) names ≡ 1
     → slice_get names place ≡ Some a → index_in names a ≡ place
-only_place [] a place once is = not_named is
+only_place [] a place once is = absurd (none-some _ is)
 only_place (first ∷ names) a zero once is =
-    place_is first a names true (same_when first a (one_name is))
+    place_is first a names true (same_when first a (same_Some _ _ is))
 only_place (first ∷ names) a (suc place) once is = by (tell first a) (only_place names a place)
   where
     step : (b : Bool) → same a first ≡ b
@@ -296,7 +284,7 @@ at_place net set_up place node is_node = by (slice_get net.names place) refl
       is = only_place net.names server place
           (set_up.once server (among_at net.names server place is)) is;
     }
-    by None is = not_named (sym (given ∙ ap (option_map some_name) is))
+    by None is = absurd (none-some _ (sym (given ∙ ap (option_map some_name) is)))
 
 one_head : {X : Type 0} {x y : X} {xs ys : List X} → x ∷ xs ≡ y ∷ ys → x ≡ y
 one_head e = cc e
@@ -336,9 +324,10 @@ setting_found (node ∷ nodes) (first ∷ names) server named =
         (cons_option (option_map setting_now o) (filter_map setting_at nodes)) server) is
         ∙ ap (λ name. cond (same name server) (Some (setting_now view))
         (setting_of (filter_map setting_at nodes) server))
-        (one_name (sym (ap (option_map (λ (v : View). v.routes.name)) is) ∙ head))
+        (same_Some _ _ (sym (ap (option_map (λ (v : View). v.routes.name)) is) ∙ head))
         ∙ at_first view is (same first server) refl rest
-    by None is rest = not_named (sym (ap (option_map (λ (v : View). v.routes.name)) is) ∙ head)
+    by None is rest =
+        absurd (none-some _ (sym (ap (option_map (λ (v : View). v.routes.name)) is) ∙ head))
 
 pub setting_there : (net : Network) → IsSetUp net → (server : Name) → IsAmong net.names server
     → setting_of (settings_of net) server ≡ Some (setting_now (view_at net server))
@@ -352,9 +341,6 @@ pub listed : (net : Network) → IsSetUp net → (server : Name)
     → is_server (settings_of net) server ≡ list_any (same server) net.names
 listed net set_up server = by (list_any (same server) net.names) refl
   where
-    past : (k n : ℕ) → k ≡ n → k ≤ n
-    past k n e = omega (arith, e)
-
     as_many : length net.nodes ≡ length net.names
     as_many = sym (length-map net.nodes named_at) ∙ ap length set_up.named
         ∙ length-map net.names some_name
@@ -367,7 +353,7 @@ listed net set_up server = by (list_any (same server) net.names) refl
         ∙ ap (λ place. option_and_then setting_at (slice_get net.nodes place))
         (no_place net.names server not_among)
         ∙ ap (option_and_then setting_at) (slice_get_past net.nodes (length net.names)
-        (past (length net.nodes) (length net.names) as_many)))
+        (le_of_eq as_many)))
 
 pub servers_named : (net : Network) → IsSetUp net → AreNamed (settings_of net)
 servers_named net set_up server is_one =

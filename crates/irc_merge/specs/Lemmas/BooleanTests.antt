@@ -1,5 +1,5 @@
 -- What tests tell.
-use Rattle.std.proofs.Common.{◌≡◌, Bool, true, false, cond, not, ◌&&◌, ◌||◌, refl}
+use Rattle.std.proofs.Common.{◌≡◌, Bool, true, false, not, ◌&&◌, refl}
 
 pub and_not : (b c : Bool) → (b && not c) ≡ true → (b ≡ true) × (c ≡ false)
 and_not true true e = cc
@@ -9,20 +9,3 @@ and_not false c e = cc
 pub not_and : (b c : Bool) → (not b && c) ≡ true → (b ≡ false) × (c ≡ true)
 not_and true c e = cc
 not_and false c e = (refl, e)
-
-pub neither : (b c : Bool) → (b || c) ≡ false → (b ≡ false) × (c ≡ false)
-neither true c e = cc
-neither false c e = (refl, e)
-
-pub or_second : (b c : Bool) → c ≡ true → (b || c) ≡ true
-or_second true c e = refl
-or_second false c e = e
-
-pub and_second : (b c : Bool) → c ≡ false → (b && c) ≡ false
-and_second true c e = e
-and_second false c e = refl
-
--- where the test makes no difference
-pub either_way : {X : Type 0} (b : Bool) (x : X) → cond b x x ≡ x
-either_way true x = refl
-either_way false x = refl

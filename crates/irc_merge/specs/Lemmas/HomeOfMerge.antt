@@ -3,6 +3,7 @@ use Rattle.std.proofs.Common.{◌≡◌, ℕ, Bool, true, false, cond, not, ◌&
 use Rattle.std.proofs.Common.{refl, sym, ◌∙◌, ap, subst, is_some, option_map}
 use Rattle.std.specs.Option.{option_and_then, option_map_or}
 use Rattle.std.specs.FinMap.{empty, keys, retain_keys, get-empty}
+use Rattle.irc_names.specs.Lemmas.PlainFacts.{same_either_way}
 use Rattle.irc_names.specs.Tables.{Table, fold_cmp, row, each, both}
 use Rattle.irc_names.specs.TableLaws.{same_table, row-each}
 use Rattle.irc_users.specs.declared.user.User.{User}
@@ -15,7 +16,6 @@ use Rattle.irc_merge.specs.Merge.{clash, room_without, either, joined_channel, o
 use Rattle.irc_merge.specs.Merge.{uninvited, channel_uninvited}
 use Rattle.irc_room.specs.Invitations.{is_at, inviting_only, of_home}
 use Rattle.irc_merge.specs.Lemmas.TableWords.{row-kept}
-use Rattle.irc_merge.specs.Lemmas.BooleanTests.{either_way}
 use Rattle.irc_merge.specs.Lemmas.Quitting.{among, thinned}
 use Rattle.irc_merge.specs.Lemmas.Introducing.{told_user, both_users}
 use Rattle.irc_merge.specs.Lemmas.Clashing.{clashing, users_without, channels_without}
@@ -123,10 +123,10 @@ module _ (home : List ℕ) (room other : Room) (well : IsWellFormed room)
           → cond (not (gone q)) (cond (is_at home room.users q) o None) None
           ≡ cond (stays q) (cond (not (gone q)) o None) None
       by_row q None at =
-          ap (λ o. cond (not (gone q)) o None) (either_way (is_at home room.users q) None)
-          ∙ either_way (not (gone q)) None
-          ∙ sym (ap (λ o. cond (stays q) o None) (either_way (not (gone q)) None)
-          ∙ either_way (stays q) None)
+          ap (λ o. cond (not (gone q)) o None) (same_either_way (is_at home room.users q) None)
+          ∙ same_either_way (not (gone q)) None
+          ∙ sym (ap (λ o. cond (stays q) o None) (same_either_way (not (gone q)) None)
+          ∙ same_either_way (stays q) None)
       by_row q (Some u) at =
           (λ i. cond (not (clashing room other well q i))
           (cond (is_at home room.users q) (Some u) None) None)
@@ -141,7 +141,7 @@ module _ (home : List ℕ) (room other : Room) (well : IsWellFormed room)
   their_invited invited known = same_table _ _ (λ q.
       row-kept empty (λ q. not (theirs_gone q)) q
       ∙ ap (λ o. cond (not (theirs_gone q)) o None) (get-empty {X = Unit {0}} fold_cmp q)
-      ∙ either_way (not (theirs_gone q)) None
+      ∙ same_either_way (not (theirs_gone q)) None
       ∙ by_row q (row invited q) refl
       ∙ sym (row-kept (retain_keys invited (λ q. not (theirs_gone q))) stays q
       ∙ ap (λ o. cond (stays q) o None) (row-kept invited (λ q. not (theirs_gone q)) q)))
@@ -156,7 +156,7 @@ module _ (home : List ℕ) (room other : Room) (well : IsWellFormed room)
       by_row : (q : List ℕ) (o : Option (Unit {0})) → row invited q ≡ o
           → None ≡ cond (stays q) (cond (not (theirs_gone q)) o None) None
       by_row q None at = sym (ap (λ o. cond (stays q) o None)
-          (either_way (not (theirs_gone q)) None) ∙ either_way (stays q) None)
+          (same_either_way (not (theirs_gone q)) None) ∙ same_either_way (stays q) None)
       by_row q (Some u) at =
           by_users q (row room.users q) (row other.users q) refl (known q (ap is_some at)) (Some u)
           ∙ sym (λ i. cond (stays_is q i)

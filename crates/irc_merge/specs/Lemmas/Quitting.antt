@@ -7,6 +7,7 @@ use Rattle.std.specs.Option.{option_and_then, option_map_or}
 use Rattle.std.specs.FinMap.{entries, entries_sorted, values, keys, retain_keys, find, is_sorted}
 use Rattle.std.specs.FinMap.{get-entries}
 use Rattle.std.specs.FinMap.Entries.{below_all}
+use Rattle.irc_names.specs.Lemmas.PlainFacts.{is_true}
 use Rattle.irc_names.specs.Fold.{key}
 use Rattle.irc_names.specs.Tables.{Table, fold_cmp, row, alter}
 use Rattle.irc_names.specs.TableLaws.{same_fold, one_fold, same_table, row-alter, row-each}
@@ -23,7 +24,7 @@ use Rattle.irc_room.specs.Lemmas.Rows.{not_none, not_true, no_row, some_key}
 use Rattle.irc_room.specs.Lemmas.SoundRows.{without_sound}
 use Rattle.irc_room.specs.Lemmas.ViewerLaws.{IsNamed, table_named}
 use Rattle.irc_merge.specs.Quits.{quits_of}
-use Rattle.irc_merge.specs.Lemmas.TableWords.{true_is, row-kept, absent}
+use Rattle.irc_merge.specs.Lemmas.TableWords.{row-kept, absent}
 
 -- whether the user with a fold is one of these
 abbrev pub among : List User → List ℕ → Bool
@@ -223,5 +224,5 @@ pub among_values : (users : Table User)
     → ((q : List ℕ) (user : User) → row users q ≡ Some user → key user.nick ≡ q) → (p : User → Bool)
     (q : List ℕ) → among (filter p (values users)) q ≡ option_map_or p (row users q) false
 among_values users named p q =
-    among_entries p q (entries users) (true_is _ (entries_sorted users)) (table_named users named)
+    among_entries p q (entries users) (is_true _ (entries_sorted users)) (table_named users named)
     ∙ ap (λ o. option_map_or p o false) (sym (get-entries users q))

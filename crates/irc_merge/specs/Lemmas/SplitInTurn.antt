@@ -7,6 +7,7 @@ use Rattle.std.specs.List.{list_any, cons_option}
 use Rattle.std.specs.Option.{option_and_then, option_map_or}
 use Rattle.std.specs.Cmp.Lexicographic.{bytes_decides}
 use Rattle.std.specs.FinMap.{values}
+use Rattle.std.proofs.lemmas.Bool.{or_parts}
 use Rattle.irc_names.specs.Spellings.{exactly_same}
 use Rattle.irc_names.specs.Tables.{Table, row, each}
 use Rattle.irc_names.specs.TableLaws.{same_table, row-each}
@@ -28,7 +29,7 @@ use Rattle.irc_merge.specs.Split.{are_distinct}
 use Rattle.irc_merge.specs.Laws.{OthersStay, HomesOneByOne, SplitIsWellFormed, SquitsSplit}
 use Rattle.irc_merge.specs.Lemmas.TableWords.{values_each}
 use Rattle.irc_merge.specs.Lemmas.Quitting.{users_left, quits_well, among_values}
-use Rattle.irc_merge.specs.Lemmas.BooleanTests.{not_and, neither}
+use Rattle.irc_merge.specs.Lemmas.BooleanTests.{not_and}
 
 -- ---- the users of a table that pass a test are the values of a table
 
@@ -99,7 +100,7 @@ same_users : (text : List ℕ) (room : Room) (home : List ℕ) (homes : List (Li
     → lost_users homes (lost_home text room home) ≡ lost_users homes room
 same_users text room home [] two well = refl
 same_users text room home (other ∷ homes) two well =
-    let parts = neither _ _ two in
+    let parts = or_parts _ _ two in
     λ i. others_stay text home other room parts.0 well i
     ++ same_users text room home homes parts.1 well i
 

@@ -1,7 +1,7 @@
 -- Words on tables: rows that are kept, one row changed twice, and the values of a table whose rows
 -- are changed.
-use Rattle.std.proofs.Common.{◌≡◌, ℕ, Bool, true, false, cond, T, Option, Some, None, List, [], ◌∷◌}
-use Rattle.std.proofs.Common.{refl, sym, ◌∙◌, ap, subst, map, filter, is_some, option_map}
+use Rattle.std.proofs.Common.{◌≡◌, ℕ, Bool, true, false, cond, Option, Some, None, List, [], ◌∷◌}
+use Rattle.std.proofs.Common.{refl, sym, ◌∙◌, ap, map, filter, is_some, option_map}
 use Rattle.std.proofs.Common.{filter_map}
 use Rattle.std.proofs.lemmas.Bool.{and_parts, and_from}
 use Rattle.std.specs.List.{cons_option, AllByRecursion}
@@ -14,6 +14,8 @@ use Rattle.std.specs.FinMap.{entries, entries_sorted, values, retain_keys, find,
 use Rattle.std.specs.FinMap.{get-entries, get-retain_keys, slice_cmp-IsAntisymmetric}
 use Rattle.std.specs.FinMap.{nat_cmp-IsAntisymmetric}
 use Rattle.std.specs.FinMap.Entries.{below_all, same_entries, is_sorted-where_key, find-where_key}
+use Rattle.std.specs.Bool.{passes}
+use Rattle.irc_names.specs.Lemmas.PlainFacts.{is_true}
 use Rattle.irc_names.specs.Tables.{Table, fold_cmp, row, alter, each}
 use Rattle.irc_names.specs.TableLaws.{same_fold, same_fold-refl, one_fold, same_table, row-alter}
 use Rattle.irc_names.specs.TableLaws.{row-alter_same, row-each}
@@ -22,13 +24,6 @@ use Rattle.irc_tables.specs.Lemmas.OrderedEntries.{above-is, find-above}
 
 pub order : IsTotalOrder fold_cmp
 order = nat_list_cmp_total
-
-pub true_is : (b : Bool) → T b → b ≡ true
-true_is true h = refl
-true_is false h = absurd h
-
-holds : (b : Bool) → b ≡ true → T b
-holds b e = subst T (sym e) tt
 
 pub row-kept : {X : Type 0} (table : Table X) (p : List ℕ → Bool) (q : List ℕ)
     → row (retain_keys table p) q ≡ cond (p q) (row table q) None
@@ -116,10 +111,10 @@ sorted_changed {X} {Y} change (e ∷ es) rise =
 pub entries_each : {X Y : Type 0} (change : X → Option Y) (table : Table X)
     → entries (each change table) ≡ filter_map (changed_entry change) (entries table)
 entries_each change table =
-    let rise = true_is _ (entries_sorted table) in
+    let rise = is_true _ (entries_sorted table) in
     same_entries fold_cmp order (slice_cmp-IsAntisymmetric nat_cmp-IsAntisymmetric)
     (entries (each change table)) (filter_map (changed_entry change) (entries table))
-    (entries_sorted (each change table)) (holds _ (sorted_changed change (entries table) rise))
+    (entries_sorted (each change table)) (passes _ (sorted_changed change (entries table) rise))
     (λ q. sym (get-entries (each change table) q) ∙ row-each change table q
     ∙ ap (option_and_then change) (get-entries table q)
     ∙ sym (find_changed change q (entries table) rise))

@@ -3,6 +3,7 @@ use Rattle.std.proofs.Common.{◌≡◌, ℕ, Bool, true, false, cond, Option, S
 use Rattle.std.proofs.Common.{ap, is_some}
 use Rattle.std.specs.Option.{option_and_then, option_map_or}
 use Rattle.std.specs.FinMap.{retain_keys}
+use Rattle.irc_names.specs.Lemmas.PlainFacts.{same_either_way}
 use Rattle.irc_names.specs.Tables.{Table, row, each}
 use Rattle.irc_names.specs.TableLaws.{same_table, row-each}
 use Rattle.irc_users.specs.declared.user.User.{User}
@@ -12,7 +13,6 @@ use Rattle.irc_merge.specs.Bursts.{home_passes, user_passes, channel_side, side_
 use Rattle.irc_merge.specs.Laws.{WholeSide}
 use Rattle.irc_merge.specs.Lemmas.TableWords.{row-kept}
 use Rattle.irc_merge.specs.Lemmas.Quitting.{peopled}
-use Rattle.irc_merge.specs.Lemmas.BooleanTests.{either_way}
 
 abbrev any_home : List ℕ → Bool
 any_home home = true
@@ -36,7 +36,7 @@ known_kept {X} users table known =
   where
     by_row : (q : List ℕ) (o : Option X) → row table q ≡ o
         → cond (home_passes any_home users q) o None ≡ o
-    by_row q None at = either_way (home_passes any_home users q) None
+    by_row q None at = same_either_way (home_passes any_home users q) None
     by_row q (Some x) at =
         ap (λ b. cond b (Some x) None) (all_pass users q (known q (ap is_some at)))
 

@@ -1,5 +1,5 @@
 -- Where a mask stands in a list of bans, and what the list is with it and without it.
-use Rattle.std.proofs.Common.{◌≡◌, ℕ, ◌<◌, Bool, true, false, cond, not, ◌&&◌, ◌||◌, Some, None}
+use Rattle.std.proofs.Common.{◌≡◌, ℕ, ◌<◌, Bool, true, false, cond, not, ◌||◌, Some, None}
 use Rattle.std.proofs.Common.{List, [], ◌∷◌, ◌++◌, length, get_or, filter, refl, sym, ap, ◌∙◌}
 use Rattle.std.proofs.Common.{is_some, suc, zero, ◌+◌, nat_lt, arith}
 use Rattle.std.proofs.lemmas.Bool.Decides.{nat_tests}
@@ -9,6 +9,8 @@ use Rattle.std.specs.Ordering.{is_lt, is_eq, ordering_reverse}
 use Rattle.std.specs.declared.cmp.Ordering.{Ordering}
 use Rattle.std.specs.declared.cmp.Ordering.TheVariants.{Less, Equal, Greater}
 use Rattle.std.specs.Cmp.{first_so, second_so}
+use Rattle.std.proofs.lemmas.Bool.{and_from}
+use Rattle.irc_names.specs.Lemmas.PlainFacts.{list_all-filter, list_all-at}
 use Rattle.irc_names.specs.Fold.{same, name_cmp}
 use Rattle.irc_names.specs.FoldLaws.{name_cmp-total, same-ties}
 use Rattle.irc_modes.specs.Bans.{before, rises}
@@ -42,15 +44,12 @@ before-trans : (a b c : List ℕ) → before a b ≡ true → before b c ≡ tru
 before-trans a b c ab bc =
     ap is_lt (name_cmp-total.trans a b c (less_is (name_cmp a b) ab) (less_is (name_cmp b c) bc))
 
-both : (a b : Bool) → a ≡ true → b ≡ true → (a && b) ≡ true
-both a b p q = cc
-
 -- what stands before a ban stands before those after it
 all_after : (mask ban : List ℕ) (bans : List (List ℕ)) → before mask ban ≡ true
     → list_all (before ban) bans ≡ true → list_all (before mask) bans ≡ true
 all_after mask ban [] first all = refl
 all_after mask ban (next ∷ bans) first all =
-    both (before mask next) (list_all (before mask) bans)
+    and_from (before mask next) (list_all (before mask) bans)
     (before-trans mask ban next first (first_so (before ban next) (list_all (before ban) bans) all))
     (all_after mask ban bans first (second_so (before ban next) (list_all (before ban) bans) all))
 
@@ -58,7 +57,7 @@ all_level : (mask ban : List ℕ) (bans : List (List ℕ)) → name_cmp mask ban
     → list_all (before ban) bans ≡ true → list_all (before mask) bans ≡ true
 all_level mask ban [] equal all = refl
 all_level mask ban (next ∷ bans) equal all =
-    both (before mask next) (list_all (before mask) bans)
+    and_from (before mask next) (list_all (before mask) bans)
     (ap is_lt (name_cmp-total.congr mask ban next equal)
     ∙ first_so (before ban next) (list_all (before ban) bans) all)
     (all_level mask ban bans equal (second_so (before ban next) (list_all (before ban) bans) all))
@@ -105,15 +104,16 @@ pub record Placed (mask : List ℕ) (bans : List (List ℕ)) : Type 0 where
 
 all_placed : (ban mask : List ℕ) (bans : List (List ℕ)) → before ban mask ≡ true
     → list_all (before ban) bans ≡ true → list_all (before ban) (placed mask bans) ≡ true
-all_placed ban mask [] first all = both (before ban mask) true first refl
+all_placed ban mask [] first all = and_from (before ban mask) true first refl
 all_placed ban mask (next ∷ bans) first all =
     by (before next mask) (first_so (before ban next) (list_all (before ban) bans) all)
     (all_placed ban mask bans first (second_so (before ban next) (list_all (before ban) bans) all))
   where
     by : (test : Bool) → before ban next ≡ true → list_all (before ban) (placed mask bans) ≡ true
         → list_all (before ban) (cond test (next ∷ placed mask bans) (mask ∷ next ∷ bans)) ≡ true
-    by true here rest = both (before ban next) (list_all (before ban) (placed mask bans)) here rest
-    by false here rest = both (before ban mask) (list_all (before ban) (next ∷ bans)) first all
+    by true here rest =
+        and_from (before ban next) (list_all (before ban) (placed mask bans)) here rest
+    by false here rest = and_from (before ban mask) (list_all (before ban) (next ∷ bans)) first all
 
 pub places : (mask : List ℕ) (bans : List (List ℕ)) → rises bans ≡ true
     → list_any (same mask) bans ≡ false → Placed mask bans
@@ -132,7 +132,7 @@ places mask (ban ∷ bans) rising none =
         record {
           is_insert = rw (lower) (ap (λ xs. ban ∷ xs) deeper.is_insert);
           is_parts = rw (lower, not_high) (ap (λ xs. ban ∷ xs) deeper.is_parts);
-          still_rises = rw (lower) (both (list_all (before ban) (placed mask bans))
+          still_rises = rw (lower) (and_from (list_all (before ban) (placed mask bans))
               (rises (placed mask bans)) (all_placed ban mask bans lower all) deeper.still_rises);
         }
     by (high not_low higher other) all rest none later =
@@ -141,10 +141,10 @@ places mask (ban ∷ bans) rising none =
           is_insert = rw (not_low) (rw (front.none_low) refl);
           is_parts = rw (not_low, higher) (rw (front.none_low, front.all_high) refl);
           still_rises =
-              rw (not_low) (both (list_all (before mask) (ban ∷ bans)) (rises (ban ∷ bans))
-              (both (before mask ban) (list_all (before mask) bans) higher
+              rw (not_low) (and_from (list_all (before mask) (ban ∷ bans)) (rises (ban ∷ bans))
+              (and_from (before mask ban) (list_all (before mask) bans) higher
               (all_after mask ban bans higher all))
-              (both (list_all (before ban) bans) (rises bans) all rest));
+              (and_from (list_all (before ban) bans) (rises bans) all rest));
         }
 
 -- ---- without a mask
@@ -161,13 +161,6 @@ unchanged mask (ban ∷ bans) none = by (same mask ban) none (λ others. unchang
     by true none later = cc
     by false none later = ap (λ xs. ban ∷ xs) (later none)
 
-all_at : {X : Type 0} (p : X → Bool) (xs : List X) (i : ℕ) (d : X) → list_all p xs ≡ true
-    → i < length xs → p (get_or xs i d) ≡ true
-all_at p [] i d all within = absurd (omega arith)
-all_at p (x ∷ xs) zero d all within = first_so (p x) (list_all p xs) all
-all_at p (x ∷ xs) (suc i) d all within =
-    all_at p xs i d (second_so (p x) (list_all p xs) all) (omega arith)
-
 -- of bans in order only one is the same as a mask
 alone : (mask ban : List ℕ) (bans : List (List ℕ)) (i : ℕ) → list_all (before ban) bans ≡ true
     → i < length bans → same mask (get_or bans i mask) ≡ true → same mask ban ≡ false
@@ -181,7 +174,7 @@ alone mask ban bans i all within here = by (side mask ban)
 
     by : Side mask ban → same mask ban ≡ false
     by (low lower not_high other) = other
-    by (level equal not_low not_high alike) = clash (all_at (before mask) bans i mask
+    by (level equal not_low not_high alike) = clash (list_all-at (before mask) bans i mask
         (all_level mask ban bans equal all) within) (side mask (get_or bans i mask))
     by (high not_low higher other) = other
 
@@ -205,24 +198,14 @@ removed mask (ban ∷ bans) (suc i) rising within here =
     rw (other) (ap (λ xs. ban ∷ xs) (removed mask bans i
     (second_so (list_all (before ban) bans) (rises bans) rising) within_rest here))
 
-pub all_kept : {X : Type 0} (p q : X → Bool) (xs : List X) → list_all p xs ≡ true
-    → list_all p (filter q xs) ≡ true
-all_kept p q [] all = refl
-all_kept p q (x ∷ xs) all = by (q x) (first_so (p x) (list_all p xs) all)
-    (all_kept p q xs (second_so (p x) (list_all p xs) all))
-  where
-    by : (test : Bool) → p x ≡ true → list_all p (filter q xs) ≡ true
-        → list_all p (cond test (x ∷ filter q xs) (filter q xs)) ≡ true
-    by true first rest = cc
-    by false first rest = rest
-
 -- bans stay in order when some are taken out
 pub rises-filter : (q : List ℕ → Bool) (bans : List (List ℕ)) → rises bans ≡ true
     → rises (filter q bans) ≡ true
 rises-filter q [] rising = refl
 rises-filter q (ban ∷ bans) rising =
     by (q ban)
-    (all_kept (before ban) q bans (first_so (list_all (before ban) bans) (rises bans) rising))
+    (list_all-filter (before ban) q bans
+          (first_so (list_all (before ban) bans) (rises bans) rising))
     (rises-filter q bans (second_so (list_all (before ban) bans) (rises bans) rising))
   where
     by : (test : Bool) → list_all (before ban) (filter q bans) ≡ true → rises (filter q bans) ≡ true

@@ -13,6 +13,7 @@ use Rattle.std.specs.FinMap as finmap
 use Rattle.std.specs.FinMap.{entries, entries_sorted, values, is_sorted, from_sorted, get-entries}
 use Rattle.std.specs.FinMap.{get-from_entries, get-from_sorted, entries-from_sorted}
 use Rattle.std.specs.FinMap.Entries.{below_all}
+use Rattle.irc_names.specs.Lemmas.PlainFacts.{is_true}
 use Rattle.irc_names.specs.Fold.{key, same}
 use Rattle.irc_names.specs.FoldLaws.{same-ties}
 use Rattle.irc_names.specs.Tables.{Table, fold_cmp, row}
@@ -177,12 +178,7 @@ so_of_entries Q (e ∷ es) sorted so =
     (here, rest)
 
 sorted_table : (bans : Table (List ℕ)) → is_sorted fold_cmp (entries bans) ≡ true
-sorted_table bans = by (is_sorted fold_cmp (entries bans)) (entries_sorted bans)
-  where
-    by : (b : Bool) → T b → b ≡ true
-    by true is = refl
-    by false is = absurd is
-
+sorted_table bans = is_true (is_sorted fold_cmp (entries bans)) (entries_sorted bans)
 -- what is so of each row is so of each entry
 pub entries_so : (Q : List ℕ → List ℕ → Type 0) (bans : Table (List ℕ)) → EachRow Q bans
     → AllByRecursion (λ e. Q e.0 e.1) (entries bans)

@@ -6,15 +6,13 @@ use Rattle.std.proofs.Common.{is_some, sum_by, count_by, refl, ◌∙◌, arith}
 use Rattle.std.specs.List.{list_all}
 use Rattle.std.specs.Cmp.{first_so, second_so}
 use Rattle.std.proofs.lemmas.List.Sums.{sum_by-cons}
+use Rattle.std.proofs.Math.Bool.{false≢true}
 use Rattle.irc_modes.specs.declared.modes.ModeChange.{ModeChange}
 use Rattle.irc_modes.specs.declared.modes.ModeLetter.{ModeLetter}
 use Rattle.irc_modes.specs.declared.modes.ModeLetter.TheVariants as letter
 use Rattle.irc_modes.specs.Letters.{letter_byte, sign_byte}
 use Rattle.irc_modes.specs.ModeWritten.{letters_behind, letters_text}
 use Rattle.irc_modes.specs.Readable.{AreReadable, has_its_word, is_of, is_worded, word_fits}
-
-not_true : {A : Type 0} → false ≡ true → A
-not_true e = cc
 
 -- ---- how many changes there are
 
@@ -36,11 +34,11 @@ one_counted plus letter.Private word fits = omega arith
 one_counted plus letter.Secret word fits = omega arith
 one_counted plus letter.Key word fits = omega arith
 one_counted plus letter.Limit word fits = omega arith
-one_counted plus letter.Ban None fits = not_true fits
+one_counted plus letter.Ban None fits = absurd (false≢true fits)
 one_counted plus letter.Ban (Some word) fits = omega arith
-one_counted plus letter.Operator None fits = not_true fits
+one_counted plus letter.Operator None fits = absurd (false≢true fits)
 one_counted plus letter.Operator (Some word) fits = omega arith
-one_counted plus letter.Voice None fits = not_true fits
+one_counted plus letter.Voice None fits = absurd (false≢true fits)
 one_counted plus letter.Voice (Some word) fits = omega arith
 
 pub counted_first : (p : ModeChange → Bool) (change : ModeChange) (changes : List ModeChange)

@@ -7,6 +7,7 @@ use Rattle.std.proofs.lemmas.List.Folds.{list_any-append}
 use Rattle.std.proofs.lemmas.List.Sums.{sum_by-cons, sum_by_push}
 use Rattle.std.specs.List.{AllByRecursion, list_any, list_all}
 use Rattle.std.specs.Cmp.{first_so, second_so}
+use Rattle.irc_names.specs.Lemmas.PlainFacts.{list_all-filter}
 use Rattle.irc_modes.specs.declared.modes.ModeChange.{ModeChange}
 use Rattle.irc_modes.specs.declared.modes.ModeLetter.{ModeLetter}
 use Rattle.irc_modes.specs.Letters.{letter_byte, plus_byte}
@@ -18,7 +19,6 @@ use Rattle.irc_modes.specs.ModeWords.{modes_read}
 use Rattle.irc_modes.specs.Readable.{AreSomeAsked, nothing_left, one_left_out, one_made}
 use Rattle.irc_modes.specs.Readable.{IsOneAsked, IsOnce, asks_of, asks_parameter, has_its_word}
 use Rattle.irc_modes.specs.Readable.{has_parameter, is_of, is_parameter, is_worded, word_fits}
-use Rattle.irc_modes.specs.Lemmas.BanPlaces.{all_kept}
 use Rattle.irc_modes.specs.Lemmas.LetterReading.{IsSound, reading_sound}
 
 -- ---- the letters that count
@@ -221,7 +221,7 @@ count_left p keeps (x ∷ xs) = by (keeps x) (count_left p keeps xs)
 pub left_is_readable : LeftIsReadable
 left_is_readable keeps changes readable filled = record {
   filled = filled;
-  worded = all_kept has_its_word keeps changes readable.worded;
+  worded = list_all-filter has_its_word keeps changes readable.worded;
   few = omega (arith, readable.few, count_left is_worded keeps changes);
   once = λ which single.
       omega (arith, readable.once which single, count_left (is_of which) keeps changes);

@@ -1,15 +1,13 @@
 -- Which ban is found for a mask once another is set or taken out.
-use Rattle.std.proofs.Common.{◌≡◌, ℕ, Bool, true, false, cond, not, ◌||◌, Option, Some, None, List}
-use Rattle.std.proofs.Common.{[], ◌∷◌, find, refl, sym, ◌∙◌, ap}
+use Rattle.std.proofs.Common.{◌≡◌, ℕ, Bool, true, false, cond, not, Option, Some, None, List}
+use Rattle.std.proofs.Common.{[], ◌∷◌, find, refl, sym, ◌∙◌, ap, true≢false}
 use Rattle.std.specs.List.{list_any}
+use Rattle.std.proofs.lemmas.Bool.{or_parts}
 use Rattle.irc_names.specs.Fold.{same}
 use Rattle.irc_names.specs.FoldLaws.{same-equivalence}
 use Rattle.irc_modes.specs.Bans.{before, rises}
 use Rattle.irc_modes.specs.Modes.{with_ban, without_ban}
 use Rattle.irc_modes.specs.Lemmas.BanPlaces.{placed, put_over, taken_gone}
-
-never : {A : Type 0} → true ≡ false → A
-never e = cc
 
 -- ---- what is found with a mask
 
@@ -19,24 +17,15 @@ swap true true a b c not_both = absurd (not_both refl refl)
 swap true false a b c not_both = refl
 swap false q a b c not_both = refl
 
-first_none : (p q : Bool) → (p || q) ≡ false → p ≡ false
-first_none true q e = never e
-first_none false q e = refl
-
-rest_none : (p q : Bool) → (p || q) ≡ false → q ≡ false
-rest_none true q e = never e
-rest_none false q e = e
-
 find_placed : (m w : List ℕ) (bans : List (List ℕ)) → list_any (same w) bans ≡ false
     → find (same m) (placed w bans) ≡ cond (same w m) (Some w) (find (same m) bans)
 find_placed m w [] none = ap (λ b. cond b (Some w) None) (same-equivalence.symm m w)
 find_placed m w (ban ∷ bans) none =
-    by (before ban w) (find_placed m w bans (rest_none (same w ban) (list_any (same w) bans) none))
+    by (before ban w) (find_placed m w bans (or_parts (same w ban) (list_any (same w) bans) none).1)
   where
     not_both : same w m ≡ true → same m ban ≡ true → ⊥
-    not_both one other = never
-        (sym other ∙ sym (same-equivalence.congr w m ban one)
-        ∙ first_none (same w ban) (list_any (same w) bans) none)
+    not_both one other = absurd (true≢false (sym other ∙ sym (same-equivalence.congr w m ban one)
+            ∙ (or_parts (same w ban) (list_any (same w) bans) none).0))
 
     by : (test : Bool) → find (same m) (placed w bans)
         ≡ cond (same w m) (Some w) (find (same m) bans)
@@ -77,12 +66,13 @@ find-without_ban m w (ban ∷ bans) = by (same w ban) refl (find-without_ban m w
     by true is rest =
         rest
         ∙ out (same w m) (same m ban) (Some ban) (find (same m) bans)
-        (λ other alike. never (sym is ∙ same-equivalence.symm w ban
-        ∙ sym (same-equivalence.congr m ban w alike) ∙ same-equivalence.symm m w ∙ other))
+        (λ other alike. absurd (true≢false (sym is ∙ same-equivalence.symm w ban ∙ sym
+                  (same-equivalence.congr m ban w alike) ∙ same-equivalence.symm m w ∙ other)))
     by false is rest =
         ap (cond (same m ban) (Some ban)) rest
         ∙ stays (same w m) (same m ban) (Some ban) (find (same m) bans)
-        (λ one alike. never (sym alike ∙ sym (same-equivalence.congr w m ban one) ∙ is))
+        (λ one alike.
+              absurd (true≢false (sym alike ∙ sym (same-equivalence.congr w m ban one) ∙ is)))
 
 -- ---- what is found behind one change
 

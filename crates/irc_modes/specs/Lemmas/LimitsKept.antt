@@ -4,6 +4,7 @@ use Rattle.std.proofs.Common.{List, [], ◌∷◌, filter, refl, sym, ap, subst,
 use Rattle.std.proofs.lemmas.Bool.{and_from}
 use Rattle.std.proofs.lemmas.List.Folds.{list_all-append}
 use Rattle.std.specs.List.{list_all}
+use Rattle.irc_names.specs.Lemmas.PlainFacts.{list_all-filter}
 use Rattle.irc_names.specs.Fold.{same}
 use Rattle.irc_names.specs.Names.{is_key, is_ban_mask, IsKey}
 use Rattle.irc_modes.specs.declared.modes.Modes.{Modes}
@@ -15,7 +16,7 @@ use Rattle.irc_names.specs.Digits.{number_of}
 use Rattle.irc_modes.specs.Modes.{is_limit, key_changed, limit_changed, with_ban, without_ban}
 use Rattle.irc_modes.specs.Modes.{ban_changed, bans_by_word, mode_changed, mode_step, modes_after}
 use Rattle.irc_modes.specs.ModesSet.{AreWithinLimits, IsLimit}
-use Rattle.irc_modes.specs.Lemmas.BanPlaces.{all_kept, with_rises, rises-filter}
+use Rattle.irc_modes.specs.Lemmas.BanPlaces.{with_rises, rises-filter}
 use Rattle.irc_modes.specs.Lemmas.LimitText.{limit_number}
 
 key_kept : (plus : Bool) (word before : Option (List ℕ)) → IfSome before IsKey
@@ -51,9 +52,9 @@ masks_with mask bans is_mask masks =
     let high = filter (before mask) bans in
     list_all-append is_ban_mask low (mask ∷ high)
     ∙ and_from (list_all is_ban_mask low) (list_all is_ban_mask (mask ∷ high))
-    (all_kept is_ban_mask (λ ban. before ban mask) bans masks)
+    (list_all-filter is_ban_mask (λ ban. before ban mask) bans masks)
     (and_from (is_ban_mask mask) (list_all is_ban_mask high) is_mask
-    (all_kept is_ban_mask (before mask) bans masks))
+    (list_all-filter is_ban_mask (before mask) bans masks))
 
 with_kept : (mask : List ℕ) (bans : List (List ℕ)) → is_ban_mask mask ≡ true → AreBans bans
     → AreBans (with_ban mask bans)
@@ -66,7 +67,7 @@ without_kept : (mask : List ℕ) (bans : List (List ℕ)) → AreBans bans
     → AreBans (without_ban mask bans)
 without_kept mask bans h = record {
   in_order = rises-filter (λ ban. not (same mask ban)) bans h.in_order;
-  masks = all_kept is_ban_mask (λ ban. not (same mask ban)) bans h.masks;
+  masks = list_all-filter is_ban_mask (λ ban. not (same mask ban)) bans h.masks;
 }
 
 bans_kept : (plus : Bool) (word : Option (List ℕ)) (bans : List (List ℕ)) → AreBans bans

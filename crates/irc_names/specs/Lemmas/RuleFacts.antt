@@ -1,6 +1,6 @@
 -- What a name of each kind is known to have: its length, its bytes, its first byte. For the crates
 -- that write names into lines.
-use Rattle.std.proofs.Common.{◌≡◌, ℕ, ◌≤◌, Bool, true, false, ◌&&◌, ◌||◌, List, [], ◌∷◌, length}
+use Rattle.std.proofs.Common.{◌≡◌, ℕ, ◌≤◌, Bool, true, false, ◌||◌, List, [], ◌∷◌, length}
 use Rattle.std.proofs.Common.{refl, arith, nat_eq}
 use Rattle.std.specs.List.{list_any, list_all}
 use Rattle.std.proofs.lemmas.Bool.Decides.{nat_tests}
@@ -39,9 +39,6 @@ unfolding is_ban_mask
 ban_mask-fits bytes h = grind (arith, nat_tests)
 
 -- ---- bytes
-
-both : (a b : Bool) → a ≡ true → b ≡ true → (a && b) ≡ true
-both a b p q = cc
 
 either : (letter special alphanumeric dash : Bool) → (letter ≡ true → alphanumeric ≡ true)
     → (letter || special) ≡ true → (alphanumeric || special || dash) ≡ true

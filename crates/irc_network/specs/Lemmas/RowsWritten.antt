@@ -1,5 +1,5 @@
 -- What is written out is on each wire the lines that waited on its way, and nothing else is so.
-use Rattle.std.proofs.Common.{◌≡◌, ℕ, zero, suc, Bool, true, false, cond, T, Option, Some, None}
+use Rattle.std.proofs.Common.{◌≡◌, ℕ, zero, suc, Bool, true, false, cond, Option, Some, None}
 use Rattle.std.proofs.Common.{List, [], ◌∷◌, length, nat_eq, refl, sym, ◌∙◌, ap, subst, map}
 use Rattle.std.proofs.Common.{unwrap_or, if◌then◌else◌}
 use Rattle.std.proofs.lemmas.Bool.{eqb-true}
@@ -9,6 +9,8 @@ use Rattle.std.specs.FinMap.Entries.{below_all, is_sorted}
 use Rattle.std.specs.List.{slice_get, slice_set}
 use Rattle.std.specs.Option.{option_map_or}
 use Rattle.std.specs.Ordering.{nat_cmp}
+use Rattle.std.proofs.Math.Nat.{suc_inj}
+use Rattle.irc_names.specs.Lemmas.PlainFacts.{is_true}
 use Rattle.irc_network.specs.Network.{LinkPlaces, Network, Node, waiting}
 use Rattle.irc_tables.specs.Lemmas.OrderedEntries.{above-is, find-above}
 use Rattle.irc_wires.specs.Wires.{AreLean, IsLean, SameWires, LinkWire, Wires, is_still, put_in}
@@ -26,10 +28,6 @@ abbrev LineQueue : Type 0
 LineQueue = ℕ × List (List ℕ)
 
 -- ---- in a row
-
-told : (b : Bool) → T b → b ≡ true
-told true is = refl
-told false is = absurd is
 
 -- no way behind one goes where it goes
 none_behind : (way : LineQueue) (ways : List LineQueue) → below_all nat_cmp way.0 ways ≡ true
@@ -131,9 +129,6 @@ lean_along (Some ends) wires lean = one_closed ends.far ends.near
 
 -- ---- all rows
 
-less : (a b : ℕ) → suc a ≡ suc b → a ≡ b
-less a b is = cc is
-
 rows_at : (nodes : List Node) (wires : Wires) (from to : ℕ) → length wires ≡ length nodes
     → wire_at (rows_written nodes wires) from to
     ≡ all_written (option_map_or (λ node. waiting node to) (slice_get nodes from) [])
@@ -142,17 +137,17 @@ rows_at [] wires from to long = refl
 rows_at (node ∷ nodes) [] from to long = cc long
 rows_at (node ∷ nodes) (row ∷ wires) zero to long =
     row_at (entries node.queues) row to
-    (told (is_sorted nat_cmp (entries node.queues)) (entries_sorted node.queues))
+    (is_true (is_sorted nat_cmp (entries node.queues)) (entries_sorted node.queues))
     ∙ sym (ap (λ o. all_written (unwrap_or o []) (wire_in to row)) (get-entries node.queues to))
 rows_at (node ∷ nodes) (row ∷ wires) (suc from) to long =
-    rows_at nodes wires from to (less (length wires) (length nodes) long)
+    rows_at nodes wires from to (suc_inj long)
 
 as_many : (nodes : List Node) (wires : Wires) → length wires ≡ length nodes
     → length (rows_written nodes wires) ≡ length (map emptied_node nodes)
 as_many [] wires long = long
 as_many (node ∷ nodes) [] long = cc long
 as_many (node ∷ nodes) (row ∷ wires) long =
-    ap suc (as_many nodes wires (less (length wires) (length nodes) long))
+    ap suc (as_many nodes wires (suc_inj long))
 
 pub is_written : (net : Network) (wires : Wires) → AreLean wires → length wires ≡ length net.nodes
     → IsWritten net wires (queues_written net wires)

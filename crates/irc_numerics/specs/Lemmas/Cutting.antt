@@ -11,7 +11,8 @@ use Rattle.irc_line.specs.PartViews.{words_now}
 use Rattle.irc_line.specs.Lemmas.CutLaws.{cut-cut_append}
 use Rattle.irc_numerics.specs.Replies.{numbered, saying, in_a_row}
 
-take-append_take : (n m : ℕ) (xs ys : List ℕ) → n ≤ m → take n (xs ++ take m ys) ≡ take n (xs ++ ys)
+pub take-append_take : (n m : ℕ) (xs ys : List ℕ) → n ≤ m
+    → take n (xs ++ take m ys) ≡ take n (xs ++ ys)
 take-append_take zero m xs ys below = refl
 take-append_take (suc n) m [] ys below = take-take (suc n) m ys below
 take-append_take (suc n) m (x ∷ xs) ys below =

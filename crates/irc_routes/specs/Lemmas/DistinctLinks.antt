@@ -11,7 +11,7 @@ use Rattle.std.specs.declared.cmp.Ordering.TheVariants.{Less}
 use Rattle.std.specs.List.{list_any, dedup, AllByRecursion}
 use Rattle.std.specs.List.Sorted.{IsPermutation, IsSorted, IsStrictlySortedBy}
 use Rattle.std.specs.Ordering.{is_lt, nat_cmp, eq_by_cmp}
-use Rattle.std.specs.Cmp.{Equal-is, eq_by_cmp_equiv, nat_cmp_total}
+use Rattle.std.specs.Cmp.{Equal-is, eq_by_cmp_equiv, nat_cmp_total, both_ways}
 use Rattle.std.specs.FinMap.{FinMap, find, from_entries, from_sorted, keys, same_map}
 use Rattle.std.specs.FinMap.{get-from_entries, get-from_sorted, entries-from_sorted, is_sorted}
 use Rattle.std.specs.FinMap.{nat_cmp-IsAntisymmetric}
@@ -42,23 +42,18 @@ keys_of_sorted xs sorted = ap (map (λ (e : ℕ × Unit {0}). e.0))
     (entries-from_sorted nat_cmp (map link_key xs) (held _ (marks_sorted xs sorted)))
     ∙ numbers_marked xs
 
-pub both_so : (a b : Bool) → (a ≡ true → b ≡ true) → (b ≡ true → a ≡ true) → a ≡ b
-both_so true b there back = sym (there refl)
-both_so false true there back = back refl
-both_so false false there back = refl
-
 one_number : (x y : ℕ) → eq_by_cmp nat_cmp x y ≡ true → x ≡ y
 one_number x y same = nat_cmp-IsAntisymmetric x y ((Equal-is (nat_cmp x y)).0 same)
 
 ties : (x y : ℕ) → eqb x y ≡ eq_by_cmp nat_cmp x y
-ties x y = both_so _ _
+ties x y = both_ways _ _
     (λ same. ap (λ z. eq_by_cmp nat_cmp x z) (sym ((Decides-eqb x y).0 same))
     ∙ (eq_by_cmp_equiv nat_cmp_total).refl x)
     (λ same. (Decides-eqb x y).1 (one_number x y same))
 
 any_kept : (xs : List ℕ) (q : ℕ)
     → list_any (eq_by_cmp nat_cmp q) (dedup eqb xs) ≡ list_any (eq_by_cmp nat_cmp q) xs
-any_kept xs q = both_so _ _
+any_kept xs q = both_ways _ _
     (λ any. list_any-from_Contains (eq_by_cmp_equiv nat_cmp_total) q xs
     (Contains-from_dedup eqb xs q (Contains-from_any one_number q (dedup eqb xs) any)))
     (λ any. list_any-from_Contains (eq_by_cmp_equiv nat_cmp_total) q (dedup eqb xs)

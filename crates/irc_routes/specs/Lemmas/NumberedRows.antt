@@ -9,6 +9,7 @@ use Rattle.std.specs.FinMap.{empty, values, len, insert, remove, get-empty, len-
 use Rattle.std.specs.FinMap.{len-remove}
 use Rattle.std.specs.List.{find, list_any}
 use Rattle.std.specs.Option.{option_map, option_and_then}
+use Rattle.std.proofs.lemmas.Option.{same_Some}
 use Rattle.irc_names.specs.Limits.{max_created}
 use Rattle.irc_names.specs.Names.{is_server, IsServer}
 use Rattle.irc_names.specs.Tables.{Table, row, alter, each, fold_cmp}
@@ -160,11 +161,8 @@ after_put : {X : Type 0} (table : Table X) (name : List ℕ) (new : X) (P : List
 after_put table name new P at_new q r before there =
     by (same_fold q name) refl (sym (row-alter name (λ _. Some new) table q) ∙ there)
   where
-    is_new : {X : Type 0} (x y : X) → Some x ≡ Some y → x ≡ y
-    is_new x y e = cc
-
     by : (b : Bool) → same_fold q name ≡ b → cond b (Some new) (row table q) ≡ Some r → P q r
-    by true same e = subst (λ x. P q x) (is_new new r e)
+    by true same e = subst (λ x. P q x) (same_Some new r e)
         (subst (λ n. P n new) (sym (one_fold q name same)) at_new)
     by false other e = before e
 

@@ -12,6 +12,9 @@ use Rattle.std.specs.FinMap as map_of
 use Rattle.std.specs.List.{find, list_any}
 use Rattle.std.specs.Option.{option_map}
 use Rattle.std.specs.Ordering.{nat_cmp}
+use Rattle.std.proofs.lemmas.Option.{same_Some}
+use Rattle.std.specs.Cmp.{both_ways}
+use Rattle.irc_names.specs.Lemmas.PlainFacts.{is_true}
 use Rattle.irc_names.specs.Tables.{Table, row, fold_cmp}
 use Rattle.irc_names.specs.TableLaws.{same_fold, one_fold, same_fold-refl, row-each, row-alter_same}
 use Rattle.irc_tables.specs.FoldedRows.{table_of, IsInFoldedOrder}
@@ -25,14 +28,12 @@ use Rattle.irc_routes.specs.Laws.{SmallestIsFree, AddedGetsSmallest, is_among, B
 use Rattle.irc_routes.specs.Laws.{LoseIsOfLink, PlaceListsAll, PlaceTells, AloneIsAlone}
 use Rattle.irc_routes.specs.Laws.{StaysNumbered}
 use Rattle.irc_routes.specs.Place.{KnownServer, Place, server_named}
-use Rattle.irc_routes.specs.Lemmas.DistinctLinks.{both_so}
 use Rattle.irc_routes.specs.Lemmas.KeptRows.{made_row}
 use Rattle.irc_routes.specs.Lemmas.NumberedRows.{numbered_alone, numbered_added, admitted}
 use Rattle.irc_routes.specs.Lemmas.NumberedRows.{numbered_without_server, numbered_without_link}
 use Rattle.irc_routes.specs.Lemmas.NumberedRows.{stays_elsewhere}
 use Rattle.irc_routes.specs.Lemmas.SmallestFree.{smallest_is_least}
 use Rattle.irc_routes.specs.Lemmas.TableRows.{row_passes, some_stands, values_each, values-table_of}
-use Rattle.irc_routes.specs.Lemmas.TableRows.{told}
 
 pub smallest_is_free : SmallestIsFree
 smallest_is_free known =
@@ -95,12 +96,8 @@ module _ (known : Known) (link : ℕ) (name : List ℕ) (numbered : IsNumbered k
   is_there (Some r) is hop =
       row_passes is_it known.rows name r is (
       ap (λ b. b && pointwise nat_eq r.name name)
-      ((Decides-eqb r.link link).1 (some_number r.link link hop))
+      ((Decides-eqb r.link link).1 (same_Some r.link link hop))
       ∙ (bytes_decides r.name name).1 (numbered.rows name r is).named)
-    where
-      some_number : (a b : ℕ) → Some a ≡ Some b → a ≡ b
-      some_number a b e = cc
-
   pub behind_of_link : IsTrue (is_among name (names_behind known link))
       ↔ (next_hop known name ≡ Some link)
   behind_of_link = (leads_there, λ hop. named_behind ∙ is_there (row_of known name) refl hop)
@@ -169,7 +166,7 @@ module _ {X : Type 0} (name : X → List ℕ) (table : Table X)
       let there = get-entries table e.0 ∙ ap (map_of.find fold_cmp e.0) is
       ∙ find-there nat_list_cmp_total e.0 e.1 front back
       (sorted-below nat_list_cmp_total e.0 e.1 front back (ap (is_sorted fold_cmp) (sym is)
-      ∙ told _ (entries_sorted table))) in
+      ∙ is_true _ (entries_sorted table))) in
       ap (λ q. (q, e.1) ∷ map (λ x. (name x, x)) (map (λ e. e.1) back)) (named e.0 e.1 there)
       ∙ ap (λ es. e ∷ es)
       (behind_front (front ++ e ∷ []) back (is ∙ sym (append_assoc front (e ∷ []) back)))
@@ -179,7 +176,7 @@ module _ {X : Type 0} (name : X → List ℕ) (table : Table X)
 
 -- found by the name among rows, and by the key among entries
 same_test : (q n : List ℕ) → same_fold q n ≡ pointwise nat_eq n q
-same_test q n = both_so (same_fold q n) (pointwise nat_eq n q)
+same_test q n = both_ways (same_fold q n) (pointwise nat_eq n q)
     (λ same. (bytes_decides n q).1 (sym (one_fold q n same)))
     (λ same. ap (λ m. same_fold q m) ((bytes_decides n q).0 same) ∙ same_fold-refl q)
 
@@ -239,7 +236,7 @@ module _ (known : Known) (numbered : IsNumbered known) where
   unfolding IsInFoldedOrder
   in_order = ap (is_sorted fold_cmp)
       (entries_named (λ (s : KnownServer). s.name) (server_table known) servers_named)
-      ∙ told _ (entries_sorted (server_table known))
+      ∙ is_true _ (entries_sorted (server_table known))
 
   found : (name : List ℕ) → server_named (place_of known) name
       ≡ (cond (is_itself known name) (Some (itself known)) (option_map known_server

@@ -1,7 +1,7 @@
 -- Among one number more than there are servers there is one that stands for none of them.
 use Rattle.std.proofs.Common.{◌≡◌, ℕ, zero, suc, ◌+◌, ◌<◌, ◌≤◌, Bool, true, false, cond, not, ◌||◌}
 use Rattle.std.proofs.Common.{List, [], ◌∷◌, length, nat_eq, nat_le, refl, sym, ◌∙◌, ap, Some}
-use Rattle.std.proofs.Common.{unwrap_or, arith, add-one}
+use Rattle.std.proofs.Common.{unwrap_or, arith, add-one, add-lt-add_of_le_of_lt, add-le-add}
 use Rattle.std.proofs.lemmas.Bool.{leb-true, le-leb}
 use Rattle.std.proofs.lemmas.Bool.Decides.{Decides-eqb}
 use Rattle.std.specs.List.{find, range_with_len}
@@ -35,24 +35,18 @@ at_most_one : (b : Bool) → as_number b ≤ 1
 at_most_one true = omega arith
 at_most_one false = omega arith
 
-add_le : (a b x y : ℕ) → a ≤ b → x ≤ y → a + x ≤ b + y
-add_le a b x y first rest = omega arith
-
 add_less : (a b x y : ℕ) → 1 + a ≤ b → x ≤ y → a + x < b + y
 add_less a b x y first rest = omega arith
-
-add_later : (a b x y : ℕ) → a ≤ b → x < y → a + x < b + y
-add_later a b x y first rest = omega arith
 
 reaching-le-length : (n : ℕ) (rows : List ServerRow) → reaching n rows ≤ length rows
 reaching-le-length n [] = omega arith
 reaching-le-length n (r ∷ rows) = let first = at_most_one (nat_le n r.ours) in let rest =
-    reaching-le-length n rows in let both = add_le _ _ _ _ first rest
+    reaching-le-length n rows in let both = add-le-add first rest
     in omega arith
 
 fewer_reach : (n : ℕ) (rows : List ServerRow) → reaching (suc n) rows ≤ reaching n rows
 fewer_reach n [] = omega arith
-fewer_reach n (r ∷ rows) = add_le _ _ _ _ (less_reach n r.ours _ _ refl refl) (fewer_reach n rows)
+fewer_reach n (r ∷ rows) = add-le-add (less_reach n r.ours _ _ refl refl) (fewer_reach n rows)
 
 used_reaches : (n : ℕ) (rows : List ServerRow) → is_used_in rows n ≡ true
     → reaching (suc n) rows < reaching n rows
@@ -62,7 +56,7 @@ used_reaches n (r ∷ rows) used =
     → reaching (suc n) (r ∷ rows) < reaching n (r ∷ rows)) [
       | true ↦ λ same used. add_less _ _ _ _ (itself_reaches n r.ours _ _ same refl refl)
           (fewer_reach n rows)
-      | false ↦ λ other used. add_later _ _ _ _ (less_reach n r.ours _ _ refl refl)
+      | false ↦ λ other used. add-lt-add_of_le_of_lt (less_reach n r.ours _ _ refl refl)
           (used_reaches n rows used)
     ] refl used
 

@@ -11,6 +11,9 @@ use Rattle.std.specs.Option.{option_and_then}
 use Rattle.std.specs.Cmp.Lexicographic.{nat_list_cmp_total}
 use Rattle.std.specs.FinMap.{entries, entries_sorted, values, len, find, from_sorted, is_sorted}
 use Rattle.std.specs.FinMap.{get-entries, len-entries, get-from_sorted, entries-from_sorted}
+use Rattle.std.proofs.Math.Bool.{or-true}
+use Rattle.std.proofs.lemmas.Option.{same_Some}
+use Rattle.irc_names.specs.Lemmas.PlainFacts.{is_true}
 use Rattle.irc_names.specs.Tables.{Table, row, each, fold_cmp}
 use Rattle.irc_names.specs.TableLaws.{same_fold, same_table, row-each}
 use Rattle.irc_tables.specs.FoldedRows.{table_of, IsInFoldedOrder}
@@ -22,31 +25,19 @@ use Rattle.irc_tables.specs.Lemmas.RowsAsTable.{entries-table_of}
 pub held : (b : Bool) → b ≡ true → T b
 held b h = subst T (sym h) tt
 
-pub told : (b : Bool) → T b → b ≡ true
-told true h = refl
-told false h = absurd h
-
 pub length-values : {X : Type 0} (table : Table X) → length (values table) ≡ len table
 length-values table = length-map (entries table) (λ e. e.1) ∙ sym (len-entries table)
 
 -- ---- the rows of a table, and the row at a name
 
-some_value : {X : Type 0} (x y : X) → Some x ≡ Some y → x ≡ y
-some_value x y e = cc
-
 found_passes : {X : Type 0} (p : X → Bool) (x : X) (v : X) (rest : Option X) (b more : Bool)
     → cond b (Some v) rest ≡ Some x → p x ≡ true → (rest ≡ Some x
     → more ≡ true)
     → (p v || more) ≡ true
-found_passes p x v rest true more found passes later = ap (λ y. p y || more) (some_value v x found)
+found_passes p x v rest true more found passes later = ap (λ y. p y || more) (same_Some v x found)
     ∙ ap (λ b. b || more) passes
 found_passes p x v rest false more found passes later = ap (λ m. p v || m) (later found)
-    ∙ or_true (p v)
-  where
-    or_true : (b : Bool) → (b || true) ≡ true
-    or_true true = refl
-    or_true false = refl
-
+    ∙ or-true (p v)
 find_passes : {X : Type 0} (p : X → Bool) (q : List ℕ) (x : X) (es : List (List ℕ × X))
     → find fold_cmp q es ≡ Some x → p x ≡ true → list_any p (map (λ e. e.1) es) ≡ true
 find_passes p q x [] found passes = cc
@@ -78,7 +69,7 @@ stands_behind p table front (e ∷ back) is any =
         there = get-entries table e.0 ∙ ap (find fold_cmp e.0) is
             ∙ find-there nat_list_cmp_total e.0 e.1 front back
             (sorted-below nat_list_cmp_total e.0 e.1 front back
-            (ap (is_sorted fold_cmp) (sym is) ∙ told _ (entries_sorted table)));
+            (ap (is_sorted fold_cmp) (sym is) ∙ is_true _ (entries_sorted table)));
         passes = passes;
       }
       | false ↦ λ fails. stands_behind p table (front ++ e ∷ []) back
@@ -159,11 +150,11 @@ module _ {X : Type 0} (p : X → Bool) (g : X → Option X)
 
   entries_each : entries (each g table) ≡ filter stays (entries table)
   entries_each =
-      let in_order = sorted_kept g (entries table) (told _ (entries_sorted table)) in
+      let in_order = sorted_kept g (entries table) (is_true _ (entries_sorted table)) in
       ap entries (same_table (each g table) (from_sorted (kept_rows g (entries table))) (λ q.
       row-each g table q
       ∙ ap (option_and_then g) (get-entries table q)
-      ∙ sym (find_kept g q (entries table) (told _ (entries_sorted table)))
+      ∙ sym (find_kept g q (entries table) (is_true _ (entries_sorted table)))
       ∙ sym (get-from_sorted fold_cmp (kept_rows g (entries table)) q (held _ in_order))))
       ∙ entries-from_sorted fold_cmp (kept_rows g (entries table)) (held _ in_order)
       ∙ sym kept_stay

@@ -6,6 +6,7 @@ use Rattle.std.specs.List.{list_all}
 use Rattle.std.specs.Option.{option_map_or}
 use Rattle.std.specs.FinMap.{get, retain_keys, get-retain_keys, nat_cmp-IsAntisymmetric}
 use Rattle.std.specs.Cmp.Lexicographic.{bytes_decides}
+use Rattle.std.proofs.lemmas.Bool.{not-true, and_parts}
 use Rattle.irc_names.specs.Fold.{key, same}
 use Rattle.irc_names.specs.Tables.{Table, row, alter}
 use Rattle.irc_names.specs.TableLaws.{same_fold, same_fold-refl, one_fold, row-alter}
@@ -40,15 +41,6 @@ pub record Holds (s : Served) : Type 0 where
   pub matched : IsMatched (machine_of s.state)
   pub well : IsWellFormed s.state.room
 
-both : (a b : Bool) → (a && b) ≡ true → (a ≡ true) × (b ≡ true)
-both true true is = (refl, refl)
-both true false is = cc is
-both false b is = cc is
-
-is_not : (b : Bool) → not b ≡ true → b ≡ false
-is_not true is = cc is
-is_not false is = refl
-
 -- ---- an effect that counts is possible
 
 nothing_missing : (there known : Bool) → is_none (if not there then Some NoSuchUser else
@@ -62,16 +54,16 @@ pub possible_by : (room : Room) (effect : Effect) → does room effect ≡ true
 possible_by room effect doing free =
     let there = nothing_missing (list_all (has_user room) (needs_users effect))
     (option_map_or (has_channel room) (needs_channel effect) true)
-    (both (is_none (missing_fault room effect)) (not (is_idle room effect)) doing).0 in
+    (and_parts (is_none (missing_fault room effect)) (not (is_idle room effect)) doing).0 in
     record { users_there = there.0; channel_there = there.1; nick_free = free }
 
 pub counted : (view : View) (effect : Effect) → counts view effect ≡ true
     → IsPossible view.room effect × (is_of_here view effect ≡ false)
 counted view effect is =
-    let first = both (does view.room effect)
+    let first = and_parts (does view.room effect)
     (brings_free view.room effect && not (is_of_here view effect)) is in
-    let second = both (brings_free view.room effect) (not (is_of_here view effect)) first.1 in
-    (possible_by view.room effect first.0 second.0, is_not (is_of_here view effect) second.1)
+    let second = and_parts (brings_free view.room effect) (not (is_of_here view effect)) first.1 in
+    (possible_by view.room effect first.0 second.0, not-true (is_of_here view effect) second.1)
 
 -- ---- a user of another server comes
 
@@ -88,7 +80,7 @@ module _ (machine : RoomMachine) (user : User) (matched : IsMatched machine)
 
       none : is_some (row machine.room.users (key name)) ≡ false
       none = ap (λ f. is_some (row machine.room.users f)) (one_fold (key name) (key user.nick) one)
-          ∙ is_not (has_user machine.room user.nick) free
+          ∙ not-true (has_user machine.room user.nick) free
 
       by : (o : Option User) → row machine.room.users (key name) ≡ o → A
       by None there = absurd

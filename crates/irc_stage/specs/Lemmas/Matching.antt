@@ -1,5 +1,5 @@
 -- Clients and users stay matched, whatever happens.
-use Rattle.std.proofs.Common.{◌≡◌, ℕ, Bool, true, false, cond, not, ◌&&◌, ◌||◌, T, Option, Some}
+use Rattle.std.proofs.Common.{◌≡◌, ℕ, Bool, true, false, cond, not, ◌||◌, T, Option, Some}
 use Rattle.std.proofs.Common.{None, List, [], ◌∷◌, refl, sym, ◌∙◌, ap, option_map, is_some}
 use Rattle.std.proofs.Common.{if◌then◌else◌}
 use Rattle.std.specs.List.{list_any}
@@ -8,6 +8,9 @@ use Rattle.std.specs.Cmp.Lexicographic.{bytes_decides}
 use Rattle.std.specs.Ordering.{nat_cmp}
 use Rattle.std.specs.FinMap.{get, insert, remove, entries, entries_sorted, find, is_sorted}
 use Rattle.std.specs.FinMap.{get-entries}
+use Rattle.std.specs.Cmp.{first_so}
+use Rattle.std.proofs.lemmas.Bool.{or_right, or_parts}
+use Rattle.irc_names.specs.Lemmas.PlainFacts.{implied}
 use Rattle.irc_names.specs.Fold.{key, same}
 use Rattle.irc_names.specs.Tables.{row, alter}
 use Rattle.irc_names.specs.TableLaws.{same_fold, same_fold-refl, one_fold, row-alter, row-moved}
@@ -91,10 +94,6 @@ any_found : (p : Client → Bool) (es : List (ℕ × Client)) (q : ℕ) (c : Cli
 any_found p [] q c is passes = cc is
 any_found p (e ∷ es) q c is passes = by (same_number q e.0) refl (any_found p es q c) is
   where
-    or_right : (a b : Bool) → b ≡ true → (a || b) ≡ true
-    or_right true b right = refl
-    or_right false b right = right
-
     by : (b : Bool) → same_number q e.0 ≡ b
         → (find nat_cmp q es ≡ Some c → p c ≡ true → list_any (λ (x : ℕ × Client). p x.1) es ≡ true)
         → cond b (Some e.1) (find nat_cmp q es) ≡ Some c
@@ -168,15 +167,11 @@ spelled_row machine matched conn nick is = by (row machine.room.users (key nick)
 
 -- Any possible effect is fit where clients and users are matched.
 
-or_false : (a b : Bool) → (not a || b) ≡ true → a ≡ true → b ≡ true
-or_false true b either is = either
-or_false false b either is = cc is
-
 free_new : (machine : RoomMachine) (nick new : List ℕ) → IsMatched machine
     → IsPossible machine.room (Rename nick new) → IsFreeFor nick new machine.clients
 free_new machine nick new matched possible conn name is same_new =
     same_new ∙ sym (key_by_same nick new
-    (or_false (has_user machine.room new) (same nick new) possible.nick_free
+    (implied (has_user machine.room new) (same nick new) possible.nick_free
     (ap (λ q. is_some (row machine.room.users q)) (sym same_new)
     ∙ here_row machine name (matched.registered_is_user conn name is))))
 
@@ -378,12 +373,7 @@ module _ (machine : RoomMachine) (nick new : List ℕ) (matched : IsMatched mach
 
   pub renamed_matched : IsMatched renamed_machine
   renamed_matched = there_is (row machine.room.users (key nick)) refl
-      (front (is_some (row machine.room.users (key nick))) possible.users_there)
-    where
-      front : (b : Bool) → (b && true) ≡ true → b ≡ true
-      front true all = refl
-      front false all = cc all
-
+      (first_so (is_some (row machine.room.users (key nick))) true possible.users_there)
 -- A user whose mode changes.
 
 mode_here : (home : List ℕ) (change : UserChange) (o : Option User) → option_map_or (is_home home)
@@ -480,10 +470,6 @@ quiet_matched machine other matched possible quiet =
 
 -- steps by which nobody comes and nobody goes
 
-neither : (a b : Bool) → (a || b) ≡ false → (a ≡ false) × (b ≡ false)
-neither true b is = cc is
-neither false b is = (refl, is)
-
 pub quiet_fit : (machine : RoomMachine) (acts : List Act) → IsMatched machine
     → ArePossible machine.room acts → list_any adds_or_ends acts ≡ false → AreFit machine acts
 quiet_fit machine [] matched possible quiet = tt
@@ -492,7 +478,7 @@ quiet_fit machine (Answer reply ∷ acts) matched possible quiet =
 quiet_fit machine (Raw line ∷ acts) matched possible quiet =
     quiet_fit machine acts matched possible quiet
 quiet_fit machine (Do effect ∷ acts) matched possible quiet =
-    let parts = neither (adds_or_ends (Do effect)) (list_any adds_or_ends acts) quiet in
+    let parts = or_parts (adds_or_ends (Do effect)) (list_any adds_or_ends acts) quiet in
     record {
       now = fit_by machine effect matched possible.now;
       later = quiet_fit (machine_after machine effect) acts
@@ -508,7 +494,7 @@ quiet_steps conn name (Answer reply ∷ acts) h matched possible quiet =
 quiet_steps conn name (Raw line ∷ acts) h matched possible quiet =
     quiet_steps conn name acts (stepped conn name (Raw line) h) matched possible quiet
 quiet_steps conn name (Do effect ∷ acts) h matched possible quiet =
-    let parts = neither (adds_or_ends (Do effect)) (list_any adds_or_ends acts) quiet in
+    let parts = or_parts (adds_or_ends (Do effect)) (list_any adds_or_ends acts) quiet in
     quiet_steps conn name acts (stepped conn name (Do effect) h)
     (quiet_matched h.state effect matched possible.now parts.0) possible.later parts.1
 

@@ -8,6 +8,7 @@ use Rattle.std.specs.FinMap.Entries.{below_all}
 use Rattle.irc_tables.specs.Lemmas.OrderedEntries.{above-is, find-above}
 use Rattle.std.specs.FinMap.{FinMap, get, insert, remove, entries, find, get-from_entries}
 use Rattle.std.specs.FinMap.{get-entries, get-insert, get-remove, same_map, nat_cmp-IsAntisymmetric}
+use Rattle.irc_names.specs.Lemmas.PlainFacts.{is_true}
 use Rattle.irc_stage.specs.declared.clients.Client.{Client}
 use Rattle.irc_stage.specs.RoomMachine.{Clients, each_client}
 use Rattle.irc_stage.specs.Loops.Parts.{numbered}
@@ -73,15 +74,11 @@ taken-numbered = taken-mapped nat_cmp_total nat_cmp-IsAntisymmetric
 
 -- entries in the order of their numbers
 
-told : (b : Bool) → T b → b ≡ true
-told true h = refl
-told false h = absurd h
-
 -- no entry behind one in order has its number
 pub none_behind : (e : (ℕ × Client)) (es : List (ℕ × Client)) → T (below_all nat_cmp e.0 es)
     → find nat_cmp e.0 es ≡ None
 none_behind e es below =
-    find-above nat_cmp_total e.0 es (sym (above-is nat_cmp_total e.0 es) ∙ told _ below)
+    find-above nat_cmp_total e.0 es (sym (above-is nat_cmp_total e.0 es) ∙ is_true _ below)
 
 -- what is found behind an entry is found with it
 pub later : (e : (ℕ × Client)) (es : List (ℕ × Client)) (q : ℕ) (c : Client)

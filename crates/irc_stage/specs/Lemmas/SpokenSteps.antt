@@ -1,9 +1,10 @@
 -- What a client's line is decided to say, its own user says: while that user is there, the client
 -- is registered under its nickname.
-use Rattle.std.proofs.Common.{◌≡◌, ℕ, Bool, true, false, cond, ◌&&◌, Option, Some, None, List, []}
+use Rattle.std.proofs.Common.{◌≡◌, ℕ, Bool, true, false, cond, Option, Some, None, List, []}
 use Rattle.std.proofs.Common.{◌∷◌, refl, sym, ◌∙◌, ap, subst, option_map, is_some, if◌then◌else◌}
 use Rattle.std.specs.List.{AllByRecursion, list_all}
 use Rattle.std.specs.Option.{option_map_or}
+use Rattle.std.specs.Cmp.{first_so}
 use Rattle.irc_line.specs.Messages.{Parsed}
 use Rattle.irc_names.specs.Fold.{key}
 use Rattle.irc_names.specs.Tables.{row}
@@ -35,10 +36,6 @@ use Rattle.irc_stage.specs.Loops.Parts.{AreFit, IsRegisteredAs}
 use Rattle.irc_stage.specs.Loops.Speaking.{AreSpoken, IsSaidByClient}
 use Rattle.irc_stage.specs.Lemmas.Numbers.{get-each}
 use Rattle.irc_stage.specs.Lemmas.Matching.{named_is, same_by_key, still_so}
-
-first_true : (a b : Bool) → (a && b) ≡ true → a ≡ true
-first_true true b both = refl
-first_true false b both = cc both
 
 module _ (conn : ℕ) (me : User) where
   -- while there is a user of the nickname, the client is registered under it
@@ -113,7 +110,7 @@ module _ (conn : ℕ) (me : User) where
   unfolding after
   follows_on machine (AddUser user) follows possible is = absurd (cc is)
   follows_on machine (Rename nick new) follows possible is =
-      follows_renamed machine nick new follows (first_true
+      follows_renamed machine nick new follows (first_so
       (has_user machine.room nick) true possible.users_there) (same_some nick me.nick is)
   follows_on machine (Quit nick text) follows possible is =
       follows_quit machine nick text (same_some nick me.nick is)
@@ -126,7 +123,7 @@ module _ (conn : ℕ) (me : User) where
   said_by_it machine (Say by notice to text) follows possible is =
       let by_is : by ≡ me.nick = same_some by me.nick is in
       subst (λ n. IsRegisteredAs (key n) (client_of machine conn)) (sym by_is)
-      (follows (ap (has_user machine.room) (sym by_is) ∙ first_true (has_user machine.room by)
+      (follows (ap (has_user machine.room) (sym by_is) ∙ first_so (has_user machine.room by)
       (list_all (has_user machine.room) (target_users to)) possible.users_there))
   said_by_it machine other follows possible is = tt
 

@@ -1,7 +1,7 @@
 -- Rows in folded order, seen as a table.
 use Rattle.std.specs.Prelude.{T, OnOk}
 use Rattle.std.proofs.Common.{◌≡◌, ℕ, ◌<◌, suc, Bool, true, false, not, cond, List, [], ◌∷◌, ◌++◌}
-use Rattle.std.proofs.Common.{map, take, drop, length, get_or, refl, sym, ◌∙◌, ap, subst, Option}
+use Rattle.std.proofs.Common.{map, take, drop, length, get_or, refl, sym, ◌∙◌, ap, Option}
 use Rattle.std.proofs.Common.{Some, None, Result, Ok, Err, is_some, is_ok, arith, drop-cons}
 use Rattle.std.proofs.Common.{add-one, set, option_map}
 use Rattle.std.proofs.lemmas.List.{get_or_default, length-map, map-append, take-append-drop}
@@ -16,19 +16,14 @@ use Rattle.std.specs.FinMap.{entries-from_sorted, find, is_sorted, slice_cmp-IsA
 use Rattle.std.specs.FinMap.{nat_cmp-IsAntisymmetric}
 use Rattle.std.specs.FinMap.Entries.{put as put_entry, is_sorted-put, find-put, is_sorted-where_key}
 use Rattle.std.specs.FinMap.Entries.{find-where_key}
+use Rattle.std.specs.Bool.{passes}
+use Rattle.irc_names.specs.Lemmas.PlainFacts.{is_true}
 use Rattle.irc_names.specs.Tables.{Table, row, put, alter, moved, put_row, fold_cmp}
 use Rattle.irc_names.specs.TableLaws.{same_fold, one_fold, same_table, row-alter}
 use Rattle.irc_tables.specs.FoldedRows.{table_of, IsInFoldedOrder, StandsAt, BelongsAt, IsPlaceOf}
 use Rattle.irc_tables.specs.Lemmas.OrderedEntries.{are_below, are_above, put-between, put-there}
 use Rattle.irc_tables.specs.Lemmas.OrderedEntries.{find-above, find-past, find-there, others}
 use Rattle.irc_tables.specs.Lemmas.OrderedEntries.{others-between, sorted-below, sorted-above}
-
-held : (b : Bool) → b ≡ true → T b
-held b h = subst T (sym h) tt
-
-told : (b : Bool) → T b → b ≡ true
-told true h = refl
-told false h = absurd h
 
 abbrev order : IsTotalOrder fold_cmp
 order = nat_list_cmp_total
@@ -48,7 +43,7 @@ pub entries-table_of : {X V : Type 0} (entry : X → List ℕ × V) (rows : List
 unfolding table_of IsInFoldedOrder
 entries-table_of entry rows sorted =
     let es = map entry rows in
-    let in_order : T (is_sorted fold_cmp es) = held _ sorted in
+    let in_order : T (is_sorted fold_cmp es) = passes _ sorted in
     let one : table_of entry rows ≡ from_sorted {R = fold_cmp} es =
     same_table (table_of entry rows) (from_sorted es) (λ q. get-from_entries order es q
     ∙ sym (get-from_sorted fold_cmp es q in_order)) in
@@ -99,7 +94,7 @@ module _ {X V : Type 0} (entry : X → List ℕ × V) (rows : List X) (fold : Li
     unfolding IsInFoldedOrder
     added-sorted sorted =
         ap (is_sorted fold_cmp) inserted
-        ∙ told _ (is_sorted-put fold_cmp order fold v (map entry rows) (held _ sorted))
+        ∙ is_true _ (is_sorted-put fold_cmp order fold v (map entry rows) (passes _ sorted))
 
     pub added-table : table_of entry (insert rows i x) ≡ alter fold (λ _. Some v)
         (table_of entry rows)
@@ -158,8 +153,9 @@ module _ {X V : Type 0} (entry : X → List ℕ × V) (rows : List X) (fold : Li
   unfolding IsInFoldedOrder
   removed-sorted =
       ap (is_sorted fold_cmp) left
-      ∙ told _ (is_sorted-where_key fold_cmp (λ k. not (eq_by_cmp fold_cmp fold k)) (map entry rows)
-      (held _ sorted))
+      ∙ is_true _ (is_sorted-where_key fold_cmp (λ k. not (eq_by_cmp fold_cmp fold k))
+            (map entry rows)
+      (passes _ sorted))
 
   look-others : (q : List ℕ) → look q (others order fold (map entry rows))
       ≡ cond (same_fold q fold) None (look q (map entry rows))
@@ -198,7 +194,7 @@ module _ {X V : Type 0} (entry : X → List ℕ × V) (rows : List X) (fold : Li
     pub replaced-sorted : IsInFoldedOrder entry (set rows i y)
     unfolding IsInFoldedOrder
     replaced-sorted = ap (is_sorted fold_cmp) replaced
-        ∙ told _ (is_sorted-put fold_cmp order fold w (map entry rows) (held _ sorted))
+        ∙ is_true _ (is_sorted-put fold_cmp order fold w (map entry rows) (passes _ sorted))
 
     pub replaced-table : table_of entry (set rows i y) ≡ alter fold (λ _. Some w)
         (table_of entry rows)

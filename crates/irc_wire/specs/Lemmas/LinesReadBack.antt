@@ -7,6 +7,7 @@ use Rattle.std.specs.List.{list_all, AllByRecursion}
 use Rattle.std.specs.Option.{option_map_or}
 use Rattle.std.proofs.lemmas.Bool.Decides.{nat_tests}
 use Rattle.std.proofs.lemmas.List.Folds.{list_all-append, list_any-append}
+use Rattle.std.specs.Cmp.{second_so}
 use Rattle.irc_line.specs.Bytes.{space, is_nul, is_space, is_colon, has_nul, begins}
 use Rattle.irc_line.specs.Carried.{is_carried, IsCarried}
 use Rattle.irc_line.specs.Laws.{IsReadSoAlone, WrittenIsLine, WrittenIsRead}
@@ -48,15 +49,11 @@ byte_no_nul : (nul other rest : Bool) → (not (nul || other) && rest) ≡ true 
 byte_no_nul true other rest h = cc h
 byte_no_nul false other rest h = refl
 
-rest_carried : (first rest : Bool) → (first && rest) ≡ true → rest ≡ true
-rest_carried true rest h = h
-rest_carried false rest h = cc h
-
 pub carried_no_nul : (text : List ℕ) → IsCarried text → has_nul text ≡ false
 carried_no_nul [] is = refl
 carried_no_nul (byte ∷ bytes) is =
     ap (λ b. b || has_nul bytes) (byte_no_nul (is_nul byte) _ (is_carried bytes) is)
-    ∙ carried_no_nul bytes (rest_carried _ (is_carried bytes) is)
+    ∙ carried_no_nul bytes (second_so _ (is_carried bytes) is)
 
 -- ---- words that are read again as they were written
 

@@ -6,8 +6,9 @@ use Rattle.std.proofs.Common.{nat_eq, is_some, count_by, refl, sym, ◌∙◌, a
 use Rattle.std.specs.List.{list_all, filter_map, cons_option, AllByRecursion}
 use Rattle.std.specs.Char.{is_ascii_digit}
 use Rattle.std.specs.Cmp.{first_so, second_so}
-use Rattle.std.proofs.lemmas.Bool.{and_from}
+use Rattle.std.proofs.lemmas.Bool.{and_from, not-true}
 use Rattle.std.proofs.lemmas.Bool.Decides.{nat_tests}
+use Rattle.std.proofs.Math.Bool.{false≢true}
 use Rattle.irc_line.specs.Bytes.{is_space, is_colon, begins}
 use Rattle.irc_line.specs.Carried.{is_carried, is_carried_byte}
 use Rattle.irc_line.specs.Messages.{IsPlainWord}
@@ -29,18 +30,10 @@ use Rattle.irc_room.specs.Sendable.{IsSentChange, IsSentWord}
 use Rattle.irc_link_words.specs.Words.{is_mode_word}
 use Rattle.irc_wire.specs.Lemmas.LinesReadBack.{carried_no_nul, nick_short}
 
-not_true : {A : Type 0} → false ≡ true → A
-not_true e = cc
-
 -- a first byte that is no colon
 no_first_colon : (word : List ℕ) → starts_without_colon word ≡ true → begins is_colon word ≡ false
 no_first_colon [] starts = refl
-no_first_colon (byte ∷ bytes) starts = turned (is_colon byte) starts
-  where
-    turned : (b : Bool) → not b ≡ true → b ≡ false
-    turned true h = not_true h
-    turned false h = refl
-
+no_first_colon (byte ∷ bytes) starts = not-true (is_colon byte) starts
 abbrev no_spaces : List ℕ → Bool
 no_spaces bytes = list_all (λ b. not (is_space b)) bytes
 
@@ -112,7 +105,7 @@ carried_pass = record { letters = letter_so; plus = refl; minus = refl }
 
 letters_start : (changes : List ModeChange) → is_nil changes ≡ false
     → starts_without_colon (letters_text changes) ≡ true
-letters_start [] filled = not_true (sym filled)
+letters_start [] filled = absurd (false≢true (sym filled))
 letters_start (change ∷ changes) filled = by_sign change.plus
   where
     by_sign : (plus : Bool) → not (nat_eq (sign_byte plus) 0x3A) ≡ true
@@ -144,7 +137,7 @@ letters_plain changes readable = record {
 }
   where
     some : (changes : List ModeChange) → is_nil changes ≡ false → letters_text changes ≢ []
-    some [] filled = not_true (sym filled)
+    some [] filled = absurd (false≢true (sym filled))
     some (change ∷ changes) filled = λ e. cc e
 
 -- ---- the parameters
@@ -223,7 +216,7 @@ limit_digits word is =
 
 limit_some : (word : List ℕ) → is_limit word ≡ true → word ≢ []
 unfolding is_limit
-limit_some [] is = not_true is
+limit_some [] is = absurd (false≢true is)
 limit_some (byte ∷ bytes) is = λ e. cc e
 
 limit_short : (word : List ℕ) → is_limit word ≡ true → length word ≤ 5
@@ -248,12 +241,12 @@ parameter_word names letter.Limit word is = limit_word word (first_so (is_limit 
 parameter_word names letter.Ban word is = mask_word word is
 parameter_word names letter.Operator word is = nick_word names word is
 parameter_word names letter.Voice word is = nick_word names word is
-parameter_word names letter.InviteOnly word is = not_true is
-parameter_word names letter.Moderated word is = not_true is
-parameter_word names letter.NoOutside word is = not_true is
-parameter_word names letter.TopicLocked word is = not_true is
-parameter_word names letter.Private word is = not_true is
-parameter_word names letter.Secret word is = not_true is
+parameter_word names letter.InviteOnly word is = absurd (false≢true is)
+parameter_word names letter.Moderated word is = absurd (false≢true is)
+parameter_word names letter.NoOutside word is = absurd (false≢true is)
+parameter_word names letter.TopicLocked word is = absurd (false≢true is)
+parameter_word names letter.Private word is = absurd (false≢true is)
+parameter_word names letter.Secret word is = absurd (false≢true is)
 
 one_word : NamesAreLineWords → (plus : Bool) (which : ModeLetter) (word : Option (List ℕ))
     (rest : List (List ℕ)) → word_fits plus which word ≡ true → list_all is_mode_word rest ≡ true
@@ -289,12 +282,12 @@ parameter_plain names room letter.Limit word is sent =
 parameter_plain names room letter.Ban word is sent = (names.ban word is sent).plain
 parameter_plain names room letter.Operator word is sent = (names.nick word is).plain
 parameter_plain names room letter.Voice word is sent = (names.nick word is).plain
-parameter_plain names room letter.InviteOnly word is sent = not_true is
-parameter_plain names room letter.Moderated word is sent = not_true is
-parameter_plain names room letter.NoOutside word is sent = not_true is
-parameter_plain names room letter.TopicLocked word is sent = not_true is
-parameter_plain names room letter.Private word is sent = not_true is
-parameter_plain names room letter.Secret word is sent = not_true is
+parameter_plain names room letter.InviteOnly word is sent = absurd (false≢true is)
+parameter_plain names room letter.Moderated word is sent = absurd (false≢true is)
+parameter_plain names room letter.NoOutside word is sent = absurd (false≢true is)
+parameter_plain names room letter.TopicLocked word is sent = absurd (false≢true is)
+parameter_plain names room letter.Private word is sent = absurd (false≢true is)
+parameter_plain names room letter.Secret word is sent = absurd (false≢true is)
 
 one_plain : NamesAreLineWords → (room : Room) (plus : Bool) (which : ModeLetter)
     (word : Option (List ℕ)) (rest : List (List ℕ)) → word_fits plus which word ≡ true

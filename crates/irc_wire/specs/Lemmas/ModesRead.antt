@@ -10,6 +10,7 @@ use Rattle.std.specs.Cmp.{first_so, second_so}
 use Rattle.std.specs.Cmp.Lexicographic.{pointwise, pointwise_decides}
 use Rattle.std.specs.Str.{bytes_eq}
 use Rattle.std.proofs.lemmas.Slice.Eq.{bytes_eq-Decides}
+use Rattle.std.proofs.Math.Bool.{false≢true}
 use Rattle.irc_line.specs.Messages.{Parsed}
 use Rattle.irc_names.specs.Fold.{key}
 use Rattle.irc_names.specs.Names.{is_channel, is_nick, is_server}
@@ -51,16 +52,13 @@ use Rattle.irc_wire.specs.Lemmas.NameKinds.{channel-for_channel, nick-no_server}
 use Rattle.irc_wire.specs.Lemmas.ModeWords.{mode_words}
 use Rattle.irc_wire.specs.Lemmas.StoredNames.{channel_stays, nick_stays}
 
-not_true : {A : Type 0} → false ≡ true → A
-not_true e = cc
-
 -- ---- the words of changes, by the rules of their letters
 
 keeps_so : (plus : Bool) (which : ModeLetter) (word : Option (List ℕ)) → word_fits plus which word
     ≡ true → (if names_member which then is_some word else word_fits plus which word) ≡ true
-keeps_so plus letter.Operator None so = not_true so
+keeps_so plus letter.Operator None so = absurd (false≢true so)
 keeps_so plus letter.Operator (Some word) so = refl
-keeps_so plus letter.Voice None so = not_true so
+keeps_so plus letter.Voice None so = absurd (false≢true so)
 keeps_so plus letter.Voice (Some word) so = refl
 keeps_so plus letter.Key word so = so
 keeps_so plus letter.Limit word so = so
@@ -72,7 +70,7 @@ keeps_so plus letter.TopicLocked word so = so
 keeps_so plus letter.Private word so = so
 keeps_so plus letter.Secret word so = so
 
-nick_so : (member fits : Bool) → fits ≡ true → (if member then fits else true) ≡ true
+pub nick_so : (member fits : Bool) → fits ≡ true → (if member then fits else true) ≡ true
 nick_so true fits so = so
 nick_so false fits so = refl
 
@@ -326,7 +324,7 @@ filled_so words taken = by (changes_of words) (rewritten words taken)
     empty words is taken = ap are_changes is ∙ taken
 
     by : (changes : List ModeChange) → changes_written changes ≡ words → is_nil changes ≡ false
-    by [] is = not_true (empty words is taken)
+    by [] is = absurd (false≢true (empty words is taken))
     by (c ∷ changes) is = refl
 
 some_asked : (items : List Asked) → list_all has_its_word (filter_map made items) ≡ true
@@ -357,9 +355,9 @@ readable_so below words taken worded = below.asked words (changes_of words)
 stored_fits : (room : Room) → IsWithinLimits room → (plus : Bool) (which : ModeLetter)
     (word : Option (List ℕ)) → word_fits plus which word ≡ true → word_fits plus which
     (if names_member which then option_map (stored_nick room) word else word) ≡ true
-stored_fits room within plus letter.Operator None so = not_true so
+stored_fits room within plus letter.Operator None so = absurd (false≢true so)
 stored_fits room within plus letter.Operator (Some word) so = nick_stays room word within so
-stored_fits room within plus letter.Voice None so = not_true so
+stored_fits room within plus letter.Voice None so = absurd (false≢true so)
 stored_fits room within plus letter.Voice (Some word) so = nick_stays room word within so
 stored_fits room within plus letter.Key word so = so
 stored_fits room within plus letter.Limit word so = so

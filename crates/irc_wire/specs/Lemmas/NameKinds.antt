@@ -7,6 +7,9 @@ use Rattle.std.specs.Cmp.{first_so, second_so}
 use Rattle.std.specs.Char.{is_ascii_alphabetic}
 use Rattle.std.specs.List.{list_any, list_all}
 use Rattle.std.proofs.lemmas.Slice.Eq.{bytes_eq-Decides}
+use Rattle.std.proofs.lemmas.Bool.{or_parts}
+use Rattle.std.proofs.Math.Seq.{take-append_seam, drop-append_seam}
+use Rattle.irc_names.specs.Lemmas.RuleFacts.{lacks}
 use Rattle.irc_names.specs.Limits.{max_server}
 use Rattle.irc_names.specs.Names.{IsNick, IsChannel, fits, is_special, is_nick, is_nick_byte}
 use Rattle.irc_names.specs.Names.{is_channel, is_channel_byte, is_server, is_server_byte}
@@ -22,14 +25,6 @@ other_byte rule refused byte out is = by (nat_eq refused byte) refl
     by : (b : Bool) → nat_eq refused byte ≡ b → b ≡ false
     by true same = sym is ∙ ap rule (sym (eqb-true refused byte same)) ∙ out
     by false other = refl
-
-lacks : (rule : ℕ → Bool) (refused : ℕ) → rule refused ≡ false → (bytes : List ℕ)
-    → list_all rule bytes ≡ true → list_any (nat_eq refused) bytes ≡ false
-lacks rule refused out [] all = refl
-lacks rule refused out (byte ∷ bytes) all =
-    ap (λ b. b || list_any (nat_eq refused) bytes)
-    (other_byte rule refused byte out (first_so (rule byte) (list_all rule bytes) all))
-    ∙ lacks rule refused out bytes (second_so (rule byte) (list_all rule bytes) all)
 
 -- ---- nicknames
 
@@ -86,12 +81,7 @@ none_behind : (p : ℕ → Bool) (n : ℕ) (bytes : List ℕ) → list_any p byt
 none_behind p zero bytes none = none
 none_behind p (suc n) [] none = refl
 none_behind p (suc n) (byte ∷ bytes) none =
-    none_behind p n bytes (later (p byte) (list_any p bytes) none)
-  where
-    later : (a b : Bool) → (a || b) ≡ false → b ≡ false
-    later true b none = cc none
-    later false b none = none
-
+    none_behind p n bytes (or_parts (p byte) (list_any p bytes) none).1
 channel-unmarked : (word : List ℕ) → IsChannel word → is_marked word ≡ false
 channel-unmarked word is = by (is_marked word) refl
   where
@@ -104,21 +94,13 @@ channel-unmarked word is = by (is_marked word) refl
 
 -- ---- the mark of an operator behind a channel
 
-behind : (front back : List ℕ) → drop (length front) (front ++ back) ≡ back
-behind [] back = refl
-behind (x ∷ front) back = behind front back
-
-before : (front back : List ℕ) → take (length front) (front ++ back) ≡ front
-before [] back = refl
-before (x ∷ front) back = ap (λ xs. x ∷ xs) (before front back)
-
 front_length : (front back : List ℕ) → length (front ++ back) - length back ≡ length front
 front_length front back = let both = length-append front back in omega (arith, both)
 
 mark_found : (channel : List ℕ) → is_marked (channel ++ op_mark) ≡ true
 mark_found channel =
     ap (λ n. bytes_eq (drop n (channel ++ op_mark)) op_mark) (front_length channel op_mark)
-    ∙ ap (λ end. bytes_eq end op_mark) (behind channel op_mark)
+    ∙ ap (λ end. bytes_eq end op_mark) (drop-append_seam channel op_mark)
 
 pub marked-told : (channel : List ℕ) (op : Bool) → IsChannel channel
     → is_marked (marked channel op) ≡ op
@@ -131,6 +113,6 @@ marked-name channel true is =
     let word = channel ++ op_mark in
     ap (λ b. if b then take (length word - 2) word else word) (mark_found channel)
     ∙ ap (λ n. take n word) (front_length channel op_mark)
-    ∙ before channel op_mark
+    ∙ take-append_seam channel op_mark
 marked-name channel false is =
     ap (λ b. if b then take (length channel - 2) channel else channel) (channel-unmarked channel is)

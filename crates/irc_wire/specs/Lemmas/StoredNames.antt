@@ -1,6 +1,7 @@
 -- The names of an effect that can be sent keep their rules, and are written as they are.
 use Rattle.std.proofs.Common.{◌≡◌, ℕ, Option, Some, None, List, subst, refl}
 use Rattle.std.specs.Option.{option_map, option_map_or}
+use Rattle.std.proofs.lemmas.Option.{same_Some}
 use Rattle.irc_names.specs.Fold.{key}
 use Rattle.irc_names.specs.Names.{IsNick, IsChannel}
 use Rattle.irc_names.specs.Tables.{row}
@@ -10,9 +11,6 @@ use Rattle.irc_room.specs.Limits.{IsWithinLimits}
 use Rattle.irc_room.specs.Room.{Room}
 use Rattle.irc_room.specs.Seen.{stored_nick, stored_channel}
 use Rattle.irc_room.specs.Sendable.{IsStoredNick, IsStoredChannel, IsNameFor, IsChannelOrNew}
-
-same_some : (x y : List ℕ) → Some x ≡ Some y → x ≡ y
-same_some x y e = cc e
 
 -- a name that keeps its rule, and is written as it is
 pub record IsKeptAs (rule : List ℕ → Type 0) (written name : List ℕ) : Type 0 where
@@ -28,7 +26,7 @@ nick_kept room nick within is = by (row room.users (key nick)) refl is
         → IsKeptAs IsNick (option_map_or (λ (user : User). user.nick) o nick) nick
     by None at is = cc is
     by (Some user) at is =
-        let same = same_some user.nick nick is in
+        let same = same_Some user.nick nick is in
         record { kept = subst IsNick same (within.users (key nick) user at).nick; as_is = same }
 
 pub channel_kept : (room : Room) (name : List ℕ) → IsWithinLimits room → IsChannelOrNew room name
@@ -51,7 +49,7 @@ channel_there room name is = by (row room.channels (key name)) is
     by : (o : Option Channel) → option_map (λ (channel : Channel). channel.name) o ≡ Some name
         → IsNameFor name o
     by None is = cc is
-    by (Some channel) is = same_some channel.name name is
+    by (Some channel) is = same_Some channel.name name is
 
 -- a name by the rule is one as the room spells it too
 pub nick_stays : (room : Room) (nick : List ℕ) → IsWithinLimits room → IsNick nick

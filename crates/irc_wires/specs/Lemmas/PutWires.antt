@@ -65,7 +65,7 @@ get_set [] from row new is = cc is
 get_set (first ∷ wires) zero row new is = refl
 get_set (first ∷ wires) (suc from) row new is = get_set wires from row new is
 
-one_before : (x y : ℕ) → nat_eq (suc x) (suc y) ≡ false → nat_eq x y ≡ false
+pub one_before : (x y : ℕ) → nat_eq (suc x) (suc y) ≡ false → nat_eq x y ≡ false
 one_before x y two = by (nat_eq x y) refl
   where
     by : (b : Bool) → nat_eq x y ≡ b → b ≡ false

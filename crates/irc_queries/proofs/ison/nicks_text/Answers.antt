@@ -1,11 +1,11 @@
 use Rattle.std.proofs.Common.{ℕ, ◌+◌, List, ◌∷◌, ◌++◌, ◌∙◌, sym, ap, take}
 use Rattle.std.specs.Borrow.{Bor}
+use Rattle.std.proofs.lemmas.Simd.{map-map}
 use Rattle.irc_line.specs.Bytes.{cut, space}
 use Rattle.irc_users.specs.declared.user.User.{User}
 use Rattle.irc_numerics.specs.Replies.{spaced}
 use Rattle.irc_numerics.specs.Lemmas.Cutting.{cut-nil}
 use Rattle.irc_numerics.specs.Lemmas.Entries.{entry_goes_on}
-use Rattle.irc_queries.proofs.MappedTwice.{mapped_twice}
 use Rattle.irc_queries.proofs.ison.nicks_text.Goals as goal
 
 pub loop-i-init : goal.loop-i-init
@@ -22,8 +22,8 @@ loop-i-preserved c =
     let once = λ (user : Bor User). user.now.nick in
     entry_goes_on once users i c.index-users-i.result _ _ c.loop-i-test.true c.index-users-i.is
     (c.loop-i.invariant ∙ ap (λ (nicks : List (List ℕ)). cut (spaced nicks))
-    (mapped_twice nick now (take i users)))
+    (map-map nick now (take i users)))
     (λ first. c.push_nick.ensures.first first ∙ ap (λ n. cut (text ++ n)) name)
     (λ later. c.push_nick.ensures.later later ∙ ap (λ n. cut (text ++ (space ∷ n))) name)
     ∙ ap (λ (nicks : List (List ℕ)). cut (spaced nicks))
-    (sym (mapped_twice nick now (take (i + 1) users)))
+    (sym (map-map nick now (take (i + 1) users)))

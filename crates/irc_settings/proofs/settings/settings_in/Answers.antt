@@ -3,6 +3,7 @@ use Rattle.std.proofs.Common.{◌∙◌, rules}
 use Rattle.std.specs.Prelude.{ℕ, Option, String, Vec, codes, string_bytes}
 use Rattle.std.specs.declared.alloc.Global.{Global}
 use Rattle.std.specs.List.{list_all}
+use Rattle.std.specs.Cmp.{second_so, first_so}
 use Rattle.toml.specs.View.{table_view}
 use Rattle.irc_settings.specs.Configuration.{Tells, flag_at, integer_at, limit_at, pace_at}
 use Rattle.irc_settings.specs.Configuration.{pace_told, peer_at}
@@ -14,7 +15,6 @@ use Rattle.irc_settings.specs.declared.settings.LinesPace.{LinesPace}
 use Rattle.irc_settings.specs.declared.settings.PeerSettings.{PeerSettings}
 use Rattle.irc_settings.proofs.KeysLost.{key_lost, pair_lost, refused}
 use Rattle.irc_settings.proofs.KeysOfTables.{unknown_key, all_kept}
-use Rattle.irc_settings.proofs.Paces.{burst_kept, per_second_kept}
 use Rattle.irc_settings.proofs.settings.settings_in.Goals as goal
 
 pub returns-then-not-has_only : goal.returns-then-not-has_only
@@ -156,8 +156,8 @@ returns c =
       c.in_ok-limit.ensures.0,
       c.in_ok-limit-2.ensures.0,
       c.in_ok-optional_number-2.ensures.0,
-      per_second_kept per_second burst c.in_ok-pace.ensures.0,
-      burst_kept per_second burst c.in_ok-pace.ensures.0,
+      first_so per_second burst c.in_ok-pace.ensures.0,
+      second_so per_second burst c.in_ok-pace.ensures.0,
       c.in_ok-flag.ensures.0,
       c.in_ok-optional_text-2.ensures.0,
       c.in_ok-optional_text-3.ensures.0,

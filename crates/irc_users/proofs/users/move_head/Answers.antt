@@ -1,7 +1,8 @@
 use Rattle.std.proofs.Common.{◌∙◌, ap, sym, Some, None}
+use Rattle.std.proofs.lemmas.Bool.{not-false, not-true}
 use Rattle.irc_names.specs.Fold.{key, same}
 use Rattle.irc_names.specs.Tables.{alter}
-use Rattle.irc_users.proofs.SeatMoves.{apart_so, one_so, put_first, put_over}
+use Rattle.irc_users.proofs.SeatMoves.{put_first, put_over}
 use Rattle.irc_users.proofs.users.move_head.Goals as goal
 
 pub returns-then-ne-clause-ok : goal.returns-then-ne-clause-ok
@@ -13,7 +14,7 @@ returns-then-ne-clause-ok c =
     (c.as_bytes.ensures.value ∙ c.copy-new.ensures))
     ∙ put_first c.args.heads.now c.args.nick.now c.args.head.nick c.args.head
     (ap (same c.args.nick.now) (sym c.copy-new.ensures)
-    ∙ apart_so _ (sym c.ne.ensures ∙ c.if-ne.true))
+    ∙ not-true _ (sym c.ne.ensures ∙ c.if-ne.true))
 
 pub returns-else-ne-clause-ok : goal.returns-else-ne-clause-ok
 returns-else-ne-clause-ok c =
@@ -22,4 +23,4 @@ returns-else-ne-clause-ok c =
     (c.as_bytes.ensures.value ∙ c.copy-new.ensures)
     ∙ put_over c.args.heads.now c.args.nick.now c.args.head.nick c.args.head
     (ap (same c.args.nick.now) (sym c.copy-new.ensures)
-    ∙ one_so _ (sym c.ne.ensures ∙ c.if-ne.false))
+    ∙ not-false _ (sym c.ne.ensures ∙ c.if-ne.false))

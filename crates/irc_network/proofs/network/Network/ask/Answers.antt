@@ -1,5 +1,6 @@
 use Rattle.std.proofs.Common.{◌≡◌, ◌∙◌, Some, None, ap, subst, sym}
 use Rattle.std.specs.List.{slice_get, slice_set}
+use Rattle.std.proofs.lemmas.Option.{slice_get_past}
 use Rattle.irc_server.specs.ReadEvents.{read_event_of}
 use Rattle.irc_network.specs.ByteNetwork.{ByteNetwork, progress_without_wires, progress_written}
 use Rattle.irc_network.specs.Lemmas.FoundAtPlaces.{found_at}
@@ -7,7 +8,7 @@ use Rattle.irc_network.specs.Lemmas.Outcomes.{on_ok}
 use Rattle.irc_network.specs.Loops.Progress.{asked_out, progress_of}
 use Rattle.irc_network.specs.Network.{Node, all_sent_out}
 use Rattle.irc_network.specs.Whole.{IsTidy}
-use Rattle.irc_network.proofs.Places.{none_here, whole}
+use Rattle.irc_network.proofs.Places.{whole}
 use Rattle.irc_network.proofs.SentOut.{nobody_asked, somebody_asked}
 use Rattle.irc_network.proofs.StaysTidy.{put_tidy}
 use Rattle.irc_network.proofs.network.Network.ask.Goals as goal
@@ -23,7 +24,7 @@ returns-in_default g c =
     (nobody_asked c.args.place (read_event_of c.args.event.now) (progress_of old lines)
     (subst IsTidy (sym c.self.view_is) c.requires.tidy)
     (subst (λ place. slice_get old.network.nodes place ≡ None) c.index.ensures
-    (none_here old.network.nodes c.index.result c.in_default.ensures.item.3)))
+    (slice_get_past old.network.nodes c.index.result c.in_default.ensures.item.3)))
 
 pub send_out-requires : goal.send_out-requires
 send_out-requires g c =

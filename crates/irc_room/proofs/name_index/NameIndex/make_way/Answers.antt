@@ -1,8 +1,9 @@
 use Rattle.std.proofs.Common.{◌∙◌, ap, is_some, sym, Some}
+use Rattle.irc_names.specs.Lemmas.PlainFacts.{none_if_not_some}
 use Rattle.irc_names.specs.Fold.{key}
 use Rattle.irc_names.specs.Tables.{row, alter}
 use Rattle.irc_tables.specs.Lemmas.RowsAsTable.{ok_also}
-use Rattle.irc_room.proofs.IndexChanges.{none_of, way_made, way_alike}
+use Rattle.irc_room.proofs.IndexChanges.{way_made, way_alike}
 use Rattle.irc_room.proofs.name_index.NameIndex.make_way.Goals as goal
 
 pub returns-clause-way : goal.returns-clause-way
@@ -19,7 +20,7 @@ returns-clause-way c =
 pub returns-clause-alike : goal.returns-clause-alike
 returns-clause-alike c =
     way_alike c.args.self.now.rows c.insert.new.self (key c.args.new.now) c.insert.result
-    (none_of (row c.args.self.now.rows (key c.args.new.now))
+    (none_if_not_some (row c.args.self.now.rows (key c.args.new.now))
     (ap (λ n. is_some (row c.args.self.now.rows (key n))) (sym c.as_bytes-2.ensures.value)
     ∙ sym c.has_row-2.ensures ∙ c.if-has_row.false))
     (ok_also c.insert.result

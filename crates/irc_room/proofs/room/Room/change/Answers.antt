@@ -1,5 +1,6 @@
 use Rattle.std.proofs.Common.{◌∙◌, sym, refl}
-use Rattle.irc_effects.specs.Lemmas.Rows.{not_none, not_true}
+use Rattle.std.proofs.Math.Bool.{false≢true}
+use Rattle.std.proofs.lemmas.Option.{none-some}
 use Rattle.irc_room.proofs.Refusals.{named_in, unchanged, served, idle_kept}
 use Rattle.irc_room.proofs.room.Room.change.Goals as goal
 
@@ -10,8 +11,8 @@ returns-in-Some-clause-changed c =
 
 pub returns-in-Some-clause-idle : goal.returns-in-Some-clause-idle
 returns-in-Some-clause-idle c =
-    λ idle none. not_none c.in-Some.fault
-    (sym none ∙ sym (c.in-Some.ensures (named_in _ _ _ _ c.self.view_is c.named-named.ensures)))
+    λ idle none. absurd (none-some c.in-Some.fault (sym none
+            ∙ sym (c.in-Some.ensures (named_in _ _ _ _ c.self.view_is c.named-named.ensures))))
 
 pub returns-then-is_idle-clause-changed : goal.returns-then-is_idle-clause-changed
 returns-then-is_idle-clause-changed c =
@@ -53,9 +54,11 @@ returns-in-Err-clause-changed c =
 pub returns-in-Ok-clause-idle : goal.returns-in-Ok-clause-idle
 returns-in-Ok-clause-idle c = λ idle none.
     let named = named_in _ c.args.self.now _ _ c.self.view_is c.named-named.ensures in
-    not_true (sym c.if-is_idle.false ∙ c.is_idle.ensures c.args.self.now.room named ∙ idle)
+    absurd
+        (false≢true (sym c.if-is_idle.false ∙ c.is_idle.ensures c.args.self.now.room named ∙ idle))
 
 pub returns-in-Err-clause-idle : goal.returns-in-Err-clause-idle
 returns-in-Err-clause-idle c = λ idle none.
     let named = named_in _ c.args.self.now _ _ c.self.view_is c.named-named.ensures in
-    not_true (sym c.if-is_idle.false ∙ c.is_idle.ensures c.args.self.now.room named ∙ idle)
+    absurd
+        (false≢true (sym c.if-is_idle.false ∙ c.is_idle.ensures c.args.self.now.room named ∙ idle))

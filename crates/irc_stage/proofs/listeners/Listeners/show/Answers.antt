@@ -1,12 +1,13 @@
-use Rattle.std.proofs.Common.{ap, sym, subst, ◌∙◌}
+use Rattle.std.proofs.Common.{ap, sym, subst, ◌∙◌, true}
 use Rattle.std.specs.List.{list_all}
+use Rattle.std.specs.Cmp.{first_so}
 use Rattle.irc_names.specs.Fold.{key}
 use Rattle.irc_tables.specs.Lemmas.RowsAsTable.{ok_also}
 use Rattle.irc_room.specs.After.{after}
 use Rattle.irc_room.specs.Effects.{has_user, needs_users}
 use Rattle.irc_stage.specs.Loops.Hearing.{hearers}
 use Rattle.irc_stage.specs.Loops.Listening.{conns_at, index_after, AreSo}
-use Rattle.irc_stage.proofs.Hearing.{doer_there, join_heard, sent_to}
+use Rattle.irc_stage.proofs.Hearing.{join_heard, sent_to}
 use Rattle.irc_stage.proofs.listeners.Listeners.show.Goals as goal
 
 pub returns-in_ok-follow-in-Join-clause-shown : goal.returns-in_ok-follow-in-Join-clause-shown
@@ -21,8 +22,8 @@ returns-in_ok-follow-in-Join-clause-shown c =
     (ap (λ name. conns_at lists (key name)) c.as_bytes.ensures.value
     ∙ join_heard room c.own.ensures.well_formed by_nick lists c.in-Join.nick c.in-Join.channel
     c.in-Join.op
-    (doer_there _ (sym (ap (λ e. list_all (has_user room) (needs_users e)) c.in-Join.is)
-    ∙ c.requires.possible.users_there))
+    (first_so _ true (sym (ap (λ e. list_all (has_user room) (needs_users e)) c.in-Join.is)
+            ∙ c.requires.possible.users_there))
     (subst (λ e. AreSo lists (after room e) (index_after e by_nick)) c.in-Join.is
     c.in_ok-follow-in-Join.ensures)
     ∙ ap (hearers room by_nick) (sym c.in-Join.is)))

@@ -1,9 +1,10 @@
-use Rattle.std.proofs.Common.{rules, ap, sym, ◌∙◌}
+use Rattle.std.proofs.Common.{rules, ap, sym, ◌∙◌, true}
 use Rattle.std.specs.List.{list_all}
+use Rattle.std.specs.Cmp.{first_so, second_so}
 use Rattle.irc_tables.specs.Lemmas.RowsAsTable.{ok_also}
 use Rattle.irc_room.specs.Effects.{has_user, needs_users}
 use Rattle.irc_stage.specs.Loops.Hearing.{hearers, told_to}
-use Rattle.irc_stage.proofs.Hearing.{doer_there, itself_heard, one_heard, other_there, quit_heard}
+use Rattle.irc_stage.proofs.Hearing.{itself_heard, one_heard, quit_heard}
 use Rattle.irc_stage.proofs.Hearing.{told_in, unseen}
 use Rattle.irc_stage.proofs.listeners.Listeners.tell_first.Goals as goal
 
@@ -73,8 +74,8 @@ returns-in-Invite c =
     ∙ ap (λ conns. told_to c.args.line.now.items conns c.args.out.now)
     (one_heard c.args.room.now.room c.own.ensures.well_formed c.args.clients.now.by_nick
     c.in-Invite.nick
-    (other_there _ _ (sym (ap (λ e. list_all (has_user c.args.room.now.room)
-    (needs_users e)) c.in-Invite.is) ∙ c.requires.possible.users_there))
+    (first_so _ true (second_so _ _ (sym (ap (λ e. list_all (has_user c.args.room.now.room)
+                (needs_users e)) c.in-Invite.is) ∙ c.requires.possible.users_there)))
     ∙ ap (hearers c.args.room.now.room c.args.clients.now.by_nick) (sym c.in-Invite.is)))
     c.tell_one.ensures
 
@@ -85,8 +86,8 @@ returns-in-ChangeUser c =
     ∙ ap (λ conns. told_to c.args.line.now.items conns c.args.out.now)
     (itself_heard c.args.room.now.room c.own.ensures.well_formed c.args.clients.now.by_nick
     c.in-ChangeUser.nick c.in-ChangeUser.change
-    (doer_there _ (sym (ap (λ e. list_all (has_user c.args.room.now.room)
-    (needs_users e)) c.in-ChangeUser.is) ∙ c.requires.possible.users_there))
+    (first_so _ true (sym (ap (λ e. list_all (has_user c.args.room.now.room)
+                (needs_users e)) c.in-ChangeUser.is) ∙ c.requires.possible.users_there))
     ∙ ap (hearers c.args.room.now.room c.args.clients.now.by_nick) (sym c.in-ChangeUser.is)))
     c.tell_itself.ensures
 

@@ -1,8 +1,8 @@
 use Rattle.std.proofs.Common.{◌≡◌, ◌<◌, ◌∙◌, ℕ, false, sym, ap, get_or, length, subst, arith}
+use Rattle.std.proofs.Common.{below_more}
 use Rattle.std.specs.List.{slice_get}
 use Rattle.irc_turns.specs.Numbered.{NumberedTalkers, is_due, nobody, one_more}
 use Rattle.irc_turns.proofs.LettingGo.{before_place, due_at, still_waits, same_due, same_holding}
-use Rattle.irc_turns.proofs.LettingGo.{one_further}
 use Rattle.irc_turns.proofs.talkers.Talkers.let_go.Goals as goal
 
 pub loop-place-init : goal.loop-place-init
@@ -55,7 +55,7 @@ loop-place-preserved c =
     ∙ c.at-held.ensures in
     record {
       one_by_one = c.loop-place.invariant.one_by_one;
-      all = one_further (λ k. (d : _) → is_due c.args.now c.args.self.now
+      all = below_more (λ k. (d : _) → is_due c.args.now c.args.self.now
           (get_or between.holding k d) ≡ false) place c.loop-place.invariant.all
           (λ d. due_at c.args.now c.args.self.now between.holding place held d within here
           ∙ c.loop-place.invariant.waits held (sym c.is_due.ensures ∙ c.if-is_due.false));

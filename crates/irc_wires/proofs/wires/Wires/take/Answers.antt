@@ -1,7 +1,8 @@
 use Rattle.std.proofs.Common.{◌≡◌, ◌∙◌, ◌++◌, ℕ, IfOk, OnOk, ap, length, min, subst, sym}
+use Rattle.std.proofs.lemmas.Option.{slice_get_past}
 use Rattle.irc_line.specs.Framed.{bytes_of}
 use Rattle.irc_wires.specs.Wires.{LinkWire, Wires, advanced, lines_by, wire_at, with_wire}
-use Rattle.irc_wires.proofs.Places.{changed_in, found_at, none_at, wire_by, wire_nowhere}
+use Rattle.irc_wires.proofs.Places.{changed_in, found_at, wire_by, wire_nowhere}
 use Rattle.irc_wires.proofs.Rows.{no_lines, on_ok}
 use Rattle.irc_wires.proofs.wires.Wires.take.Goals as goal
 
@@ -11,7 +12,7 @@ returns-in_default-clause-lines c =
     (ap (λ (wires : Wires). wire_at wires c.args.from c.args.to) (sym c.self.view_is)
     ∙ ap (λ (from : ℕ). wire_at c.self.inside.rows.items from c.args.to) (sym c.index.ensures)
     ∙ wire_nowhere c.self.inside.rows.items c.index.result c.args.to
-    (none_at c.self.inside.rows.items c.index.result c.in_default.ensures.item.3))
+    (slice_get_past c.self.inside.rows.items c.index.result c.in_default.ensures.item.3))
     (bytes_of c.args.lines.now.items)
 
 pub returns-clause-taken : goal.returns-clause-taken
