@@ -55,6 +55,7 @@ later_entries [] ends = refl
 later_entries (b ∷ rest) ends =
     sym (ap (λ v. filter (λ entry. not (is_nil entry)) (cond v ([] ∷ slice_split is_comma rest)
     (onto_first b (slice_split is_comma rest)))) (not-false (is_comma b) ends))
+
 first_entry : (entry rest : List ℕ) → entry ≢ [] → list_any is_comma entry ≡ false
     → begins (λ b. not (is_comma b)) rest ≡ false → entries (entry ++ rest) ≡ entry ∷ entries rest
 unfolding entries

@@ -46,6 +46,7 @@ nowhere members rows fold place same absent at =
     ∙ ap is_some (row-table_of row_entry rows fold ∙ ap (find fold_cmp fold) same
     ∙ sym (get-entries members fold))
     ∙ absent)
+
 -- the rows with one between those before its place and those behind
 pub put_at_place : (members : Table Flags) (rows : List (Row Flags)) (fold : List ℕ) (place : ℕ)
     → map row_entry rows ≡ entries members → BelongsAt row_entry rows fold place → (flags : Flags)

@@ -85,6 +85,7 @@ pub tested_few : (me : User) (room : Room) (steps acts : List Act) (count limit 
 tested_few me room steps acts count limit same is few =
     ap (λ s. nat_le limit (length (own_channels (ahead room s) me))) (sym same)
     ∙ ap (nat_le limit) (sym is) ∙ lt-leb limit count few
+
 -- a channel that may be joined is served as it was
 pub served_as : (me : User) (room : Room) (acts : List Act) (name given : List ℕ)
     → AreOwnJoins me.nick room acts → is_channel name ≡ true

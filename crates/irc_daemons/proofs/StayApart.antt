@@ -26,6 +26,7 @@ pub front_enough : (front rest bytes : List ℕ) → bytes ≡ front ++ rest →
 front_enough front rest bytes is =
     subst (λ n. length front ≤ n) (sym (ap (λ bs. length bs) is ∙ length-append front rest))
     (le-add_right (length front) (length rest))
+
 -- ---- one server does something by which no client comes to it
 
 module _ (place : ℕ) (next : Served) (along : Wires) (old new : ByteNetwork)

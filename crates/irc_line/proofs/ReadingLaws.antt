@@ -45,6 +45,7 @@ word_begins : (word more : List ℕ) → word ≢ [] → HasNoSpace word
 word_begins [] more some no_space = absurd (some refl)
 word_begins (b ∷ word) more some no_space =
     not-true (is_space b) ((and_parts (not (is_space b)) (list_all is_word_byte word) no_space).0)
+
 -- What stands behind the spaces at the front of the parameters.
 record Start (text : List ℕ) : Type 0 where
   gap : List ℕ

@@ -1,10 +1,11 @@
--- The word by which two ends of a link agree to count pieces (our own choice), behind the options of
--- PASS (RFC 2813 section 4.1.1):
+-- The word by which two ends of a link agree to count pieces (our own choice), behind the options
+-- of PASS (RFC 2813 section 4.1.1):
 --   a.net calls, and says    PASS pw 0210010001 TREE| exact1
 --   b.net has it too         PASS pw 0210010001 TREE| exact1      pieces are counted
 --   or it has not            PASS pw 0210010001 TREE|             lines go one by one
 -- The server is given the line without the word, as it is in both cases.
-use Rattle.std.specs.Prelude.{ℕ, Bool, ◌&&◌, ◌-◌, Option, Some, None, List, ◌++◌, codes, length, take}
+use Rattle.std.specs.Prelude.{ℕ, Bool, ◌&&◌, ◌-◌, Option, Some, None, List, ◌++◌, codes, length}
+use Rattle.std.specs.Prelude.{take}
 use Rattle.std.specs.Prelude.{nat_eq, if◌then◌else◌}
 use Rattle.std.specs.List.{starts_with, ends_with}
 use Rattle.irc_line.specs.Bytes.{crlf, cut}

@@ -262,6 +262,7 @@ pub plays_on : {first between last : NetView} (steps : List Step) (answers more 
 plays_on {first = first} {last = last} steps answers more i step answer plays done is behind =
     subst (λ n. PlaysSteps first (take n steps) more last) (suc-eq-add-one i)
     (then_one step answer plays done (taken_on steps i step is) behind)
+
 pub stops : {first between last : NetView} (steps : List Step) (answers : List StepAnswer)
     (i : ℕ) (step : Step) (fault : NetFault) → PlaysSteps first (take i steps) answers between
     → slice_get steps i ≡ Some step → IsStepDone between step (Err fault) last
@@ -287,6 +288,7 @@ pub all_played : {old new : NetView} (steps : List Step) (answers : List StepAns
     → ArePlayed old steps (Ok answers) new
 all_played {old = old} {new = new} steps answers i behind plays =
     calls.plays_them (subst (λ ss. PlaysSteps old ss answers new) (take_all i steps behind) plays)
+
 pub play_stops : (old new : NetView) (steps : List Step) (fault : NetFault)
     (r : Result (Vec StepAnswer) NetFault) → IsErrAnd r (λ e. e ≡ fault)
     → StopsAt old steps fault new → ArePlayed old steps (answers_now r) new

@@ -137,6 +137,7 @@ row_there [] (first ∷ nodes) place node same at = cc same
 row_there (row ∷ wires) (first ∷ nodes) zero node same at = (row, refl)
 row_there (row ∷ wires) (first ∷ nodes) (suc place) node same at =
     row_there wires nodes place node (suc_inj same) at
+
 wire_here : (wires : Wires) (from to : ℕ) (wire : LinkWire) (row : WireRow)
     → slice_get wires from ≡ Some row → wire_at (with_wire from to wire wires) from to ≡ wire
 wire_here wires from to wire row is =

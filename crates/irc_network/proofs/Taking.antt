@@ -34,6 +34,7 @@ pub one_more_sent : (place : ℕ) (out : List Sent) (i : ℕ) (progress : Progre
     ≡ all_sent_out place (take (i + 1) out) progress
 one_more_sent place out i progress within = next_sent place out i progress within
     ∙ ap (λ n. all_sent_out place (take n out) progress) (suc-eq-add-one i)
+
 -- ---- a server is asked
 
 pub asked_nowhere : (place : ℕ) (read_event : ReadEvent) (progress : Progress Network)

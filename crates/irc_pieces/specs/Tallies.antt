@@ -4,7 +4,8 @@
 --   b puts out another of one line        the line alone: all that was read is told
 --   b puts out one of two lines           COUNT 1 2, and both
 --   b reads 64 more, and says nothing     COUNT 65 0
-use Rattle.std.specs.Prelude.{ℕ, ◌+◌, ◌-◌, Bool, not, is_some, ◌&&◌, ◌||◌, nat_eq, nat_le, min, Option}
+use Rattle.std.specs.Prelude.{ℕ, ◌+◌, ◌-◌, Bool, not, is_some, ◌&&◌, ◌||◌, nat_eq, nat_le, min}
+use Rattle.std.specs.Prelude.{Option}
 use Rattle.std.specs.Prelude.{Some, None, if◌then◌else◌}
 use Rattle.irc_pieces.specs.declared.count.Count.{Count}
 use Rattle.irc_pieces.specs.declared.count.Mark.{Mark}

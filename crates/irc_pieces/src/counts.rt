@@ -1,7 +1,8 @@
 //! How many pieces one end of a link has put out, and how many it has read.
 ghost use Rattle.std.specs.Prelude.{◌≡◌, if◌then◌else◌};
 ghost use Rattle.irc_pieces.specs.Tallies.{all_told, count_alone, count_for, count_now, is_due};
-ghost use Rattle.irc_pieces.specs.Tallies.{is_possible, none_counted, one_read, put_one_out, unread};
+ghost use Rattle.irc_pieces.specs.Tallies.{is_possible, none_counted, one_read, put_one_out};
+ghost use Rattle.irc_pieces.specs.Tallies.{unread};
 
 use crate::count::{Count, Mark};
 

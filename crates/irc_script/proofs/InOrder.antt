@@ -77,6 +77,7 @@ behind_front : (x y : Name) (xs ys : List Name) → x ≡ y
 behind_front x y xs ys front same z =
     add_left_cancel (one z x) (sym (sum_by-cons (one z) x xs) ∙ same z
           ∙ ap (λ w. times z (w ∷ ys)) (sym front) ∙ sum_by-cons (one z) x ys)
+
 nowhere_in : (x y : Name) (ys : List Name) → slice_cmp nat_cmp x y ≡ Less → exceeds_one y ys ≡ false
     → times x (y ∷ ys) ≡ 0
 nowhere_in x y ys less none = no_more (times x (y ∷ ys)) (one x y) (times x ys)

@@ -8,7 +8,8 @@ use Rattle.irc_batch.specs.Batches.{Sent, end_of, end_of_link, line_on, line_to}
 use Rattle.irc_line.specs.declared.reading.LineFault.{LineFault}
 use Rattle.irc_line.specs.Messages.{Parsed}
 use Rattle.irc_stage.specs.View.{End, View}
-use Rattle.irc_server.specs.Closings.{ServedClosesItsOwn, closing_by_line, closing_of, link_closings}
+use Rattle.irc_server.specs.Closings.{ServedClosesItsOwn, closing_by_line, closing_of}
+use Rattle.irc_server.specs.Closings.{link_closings}
 use Rattle.irc_server.specs.LinesThatSet.{line_set, read_at}
 use Rattle.irc_server.proofs.AllServed.{Closings, IsKeptWhenServed, closing_set, served_so, set_so}
 

@@ -1,7 +1,8 @@
 //! What a server keeps until it starts again, whatever its file says meanwhile.
 ghost use Rattle.std.specs.Prelude.{◌≡◌, ◌≤◌, length, option_map, string_bytes};
 ghost use Rattle.std.specs.Cmp.Lexicographic.{pointwise};
-ghost use Rattle.irc_settings.specs.Fixed.{differs_at, fixed_keys, key_name, same_flag, same_number, same_peer};
+ghost use Rattle.irc_settings.specs.Fixed.{differs_at, fixed_keys, key_name, same_flag};
+ghost use Rattle.irc_settings.specs.Fixed.{same_number, same_peer};
 ghost use Rattle.irc_settings.specs.Fixed.{same_text, same_text_if};
 
 use crate::{PeerSettings, Settings};

@@ -62,6 +62,7 @@ before_further old bytes piece used more wanted rest before few none taken place
           (none (place - used) (sub-lt_left_of_lt-add past below) (take used bytes) taken) in
           subst (λ n. n < wanted) (sym same) few
     ] refl
+
 -- ---- all of it
 
 nothing_taken : HasTaken nothing_begun []
@@ -92,6 +93,7 @@ end_there bytes ended ends ends_are place past below =
     ∙ ap is_line_end (sym (get_or-drop ended bytes (place - ended) 0))
     ∙ prefix_len_passes is_line_end (drop ended bytes) (place - ended) 0
     (subst (λ n. place - ended < n) ends_are (sub-lt_left_of_lt-add past below))
+
 no_end_there : (bytes : List ℕ) (ended ends : ℕ) → ends ≡ prefix_len is_line_end (drop ended bytes)
     → ends < length (drop ended bytes) → is_line_end (get_or bytes (ended + ends) 0) ≡ false
 no_end_there bytes ended ends ends_are within =

@@ -68,6 +68,7 @@ kept pace came all last (once_more begun _ now bytes before _ has says) =
           (stretches came before.counted_at now (max pace.per_second 1) so.since says.later)
           says.all_are);
     }
+
 pub pace_kept : PaceIsKept
 pace_kept pace came begun last has = no_left _ _ _ (kept pace came begun last has).sum
   where

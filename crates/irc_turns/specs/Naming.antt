@@ -1,4 +1,5 @@
--- Those who have come by a door and have yet to name themselves, or to become users, and until when.
+-- Those who have come by a door and have yet to name themselves, or to become users, and until
+-- when.
 use Rattle.std.specs.Prelude.{ℕ, ◌*◌, nat_lt, if◌then◌else◌, Option, Some, None, List, [], ◌∷◌}
 use Rattle.std.specs.Prelude.{◌++◌}
 use Rattle.irc_moments.specs.Moments.{later}

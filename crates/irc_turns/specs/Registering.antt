@@ -1,5 +1,5 @@
--- Clients that have come and are to become users in time, and the one of which it is asked whether it
--- is.
+-- Clients that have come and are to become users in time, and the one of which it is asked whether
+-- it is.
 use Rattle.std.specs.Prelude.{ℕ, Bool, is_some, Option, Some, None}
 use Rattle.irc_turns.specs.Naming.{TimedStrangers, first_over, others_of, stranger_too}
 use Rattle.irc_turns.specs.Naming.{strangers_of}
@@ -15,7 +15,8 @@ abbrev pub newcomer_too : TalkerMark → ℕ → Newcomers → Newcomers
 newcomer_too mark now newcomers =
     record newcomers { comers = stranger_too mark now newcomers.comers }
 
--- where it is asked of none, it is of the next whose time is over at a moment, who leaves the others
+-- where it is asked of none, it is of the next whose time is over at a moment, who leaves the
+-- others
 abbrev pub looked_for : ℕ → TimedStrangers → Option TalkerMark → Newcomers
 looked_for now comers None = record { comers = others_of now comers; late = first_over now comers }
 looked_for now comers (Some mark) = record { comers = comers; late = Some mark }

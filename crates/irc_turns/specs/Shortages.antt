@@ -1,5 +1,5 @@
--- Whether connections can be taken, and what was told of it: that they cannot at once, and that they
--- can a second behind the last that could not.
+-- Whether connections can be taken, and what was told of it: that they cannot at once, and that
+-- they can a second behind the last that could not.
 use Rattle.std.specs.Prelude.{ℕ, ◌-◌, Bool, true, false, not, ◌&&◌, nat_le, if◌then◌else◌, Option}
 use Rattle.std.specs.Prelude.{Some, None}
 use Rattle.irc_turns.specs.declared.shortage.Shortage.{Shortage}

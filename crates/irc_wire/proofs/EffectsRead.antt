@@ -174,6 +174,7 @@ topic_read reader nick channel text is named short =
 itself : (nick : List ℕ) → is_itself_or_none nick nick ≡ true
 itself nick = ap (λ b. not (is_nick nick && is_nick nick) || b) ((same-tells nick nick).1 refl)
     ∙ or-true (not (is_nick nick && is_nick nick))
+
 for_user : (reader : Reader) (name nick : List ℕ) (words : List (List ℕ)) → IsNick nick
     → mode_line reader (Some name) (nick ∷ words) ≡ user_mode_line reader name nick words
 for_user reader name nick words named =

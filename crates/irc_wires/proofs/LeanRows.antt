@@ -190,6 +190,7 @@ same_wires (row ∷ one) (known ∷ other) lean lean_too long alike =
     ap (λ r. r ∷ one) (rows_same row known lean.0 lean_too.0 (alike 0))
     ∙ ap (λ wires. known ∷ wires) (same_wires one other lean.1 lean_too.1
     (suc_inj long) (λ from. alike (suc from)))
+
 -- ---- where nothing was written
 
 pub none_kept : (servers : ℕ) → AreLean (replicate servers empty)

@@ -26,4 +26,5 @@ said_front address text words line (Err error) old new text_is is kept =
 -- nothing is
 pub said_nothing : (address : SocketAddr) (held : Option (List ℕ)) → SaysClosed address held held
 said_nothing address None = record { words = []; count = 0; appended = tt }
-said_nothing address (Some held) = record { words = []; count = 0; appended = sym (append-nil held) }
+said_nothing address (Some held) =
+    record { words = []; count = 0; appended = sym (append-nil held) }

@@ -165,7 +165,8 @@ pub record IsSetUp (settings : Settings) (setup : Setup) : Type 0 where
   pub called : AreCalled settings.peers.items setup.callees.items
   pub plain : setup.plain.items ≡ plain_names settings.peers.items
   pub spread : setup.spread ≡ name_spread (string_bytes settings.name)
-  pub connections_per_address : setup.limits.connections_per_address ≡ settings.connections_per_address
+  pub connections_per_address : setup.limits.connections_per_address
+      ≡ settings.connections_per_address
   pub name_within : setup.name_within ≡ settings.name_within
   pub links_per_address : setup.limits.links_per_address ≡ settings.links_per_address
   pub register_within : setup.register_within ≡ settings.register_within
@@ -366,8 +367,8 @@ AreRestartsSaid (key ∷ keys) first now held after =
 pub data Rereads (first : Settings) (room : ℕ) (old : EngineViewOf MioWire Front)
     (held : Option (List ℕ)) : EngineViewOf MioWire Front → Option (List ℕ) → Type 0 where
   unasked : Rereads first room old held old held
-  unread : (what : Rereading) (after : Option (List ℕ)) → IsFrontSaid (rereading_line what) held after
-      → Rereads first room old held old after
+  unread : (what : Rereading) (after : Option (List ℕ))
+      → IsFrontSaid (rereading_line what) held after → Rereads first room old held old after
   reread : (text : List ℕ) (setup : Setup) (is : IsTextOf text setup)
       (new : EngineViewOf MioWire Front) (between after : Option (List ℕ))
       → IsChanged setup room old new → IsFrontSaid (rereading_line Taken) held between
@@ -393,9 +394,11 @@ Serves settings room turns old new printed printed_after errors errors_after (Ok
     × FrontTurns settings room old errors turns new errors_after
 Serves settings room turns old new printed printed_after errors errors_after (Err Failed) =
     Wrote printed printed_after ready_text × AreSomeSaid errors errors_after
-Serves settings room turns old new printed printed_after errors errors_after (Err BadConfiguration) = ⊥
+Serves settings room turns old new printed printed_after errors errors_after
+    (Err BadConfiguration) = ⊥
 Serves settings room turns old new printed printed_after errors errors_after (Err Usage) = ⊥
-Serves settings room turns old new printed printed_after errors errors_after (Err (BadScript line)) = ⊥
+Serves settings room turns old new printed printed_after errors errors_after
+    (Err (BadScript line)) = ⊥
 
 -- where the program failed: nothing was printed or said; or the text sets up a server, and nothing
 -- was printed, since none is open; or a front of `ready` was, and what was said is of the journal

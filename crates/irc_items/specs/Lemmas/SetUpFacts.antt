@@ -211,6 +211,7 @@ among_at (first ∷ names) a zero is =
     ap (λ b. b || list_any (same a) names) (same_when a first (sym (same_Some _ _ is)))
 among_at (first ∷ names) a (suc place) is =
     ap (λ b. same a first || b) (among_at names a place is) ∙ or-true (same a first)
+
 counted_once : (names : List Name) (a : Name) → IsAmong names a → 0 < count_by (same a) names
 counted_once [] a among = cc among
 counted_once (first ∷ names) a among = by (same a first) refl (counted_once names a)

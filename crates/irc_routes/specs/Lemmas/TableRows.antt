@@ -38,6 +38,7 @@ found_passes p x v rest true more found passes later = ap (λ y. p y || more) (s
     ∙ ap (λ b. b || more) passes
 found_passes p x v rest false more found passes later = ap (λ m. p v || m) (later found)
     ∙ or-true (p v)
+
 find_passes : {X : Type 0} (p : X → Bool) (q : List ℕ) (x : X) (es : List (List ℕ × X))
     → find fold_cmp q es ≡ Some x → p x ≡ true → list_any p (map (λ e. e.1) es) ≡ true
 find_passes p q x [] found passes = cc

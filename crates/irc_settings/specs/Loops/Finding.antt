@@ -59,7 +59,8 @@ ReadsAsRoom most value =
 -- a number from the first of these to the second
 abbrev pub ReadsAsNumber : ℕ → ℕ → Data → Result ℕ SettingsFault → Type 0
 ReadsAsNumber least most value =
-    FindsValue (is_of_kind (integer least most) value) (λ found. as_integer value ≡ Some (pos found))
+    FindsValue (is_of_kind (integer least most) value)
+        (λ found. as_integer value ≡ Some (pos found))
 
 -- a boolean
 abbrev pub ReadsAsFlag : Data → Result Bool SettingsFault → Type 0

@@ -374,6 +374,7 @@ module _ (machine : RoomMachine) (nick new : List ℕ) (matched : IsMatched mach
   pub renamed_matched : IsMatched renamed_machine
   renamed_matched = there_is (row machine.room.users (key nick)) refl
       (first_so (is_some (row machine.room.users (key nick))) true possible.users_there)
+
 -- A user whose mode changes.
 
 mode_here : (home : List ℕ) (change : UserChange) (o : Option User) → option_map_or (is_home home)

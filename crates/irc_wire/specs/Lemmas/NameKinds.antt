@@ -82,6 +82,7 @@ none_behind p zero bytes none = none
 none_behind p (suc n) [] none = refl
 none_behind p (suc n) (byte ∷ bytes) none =
     none_behind p n bytes (or_parts (p byte) (list_any p bytes) none).1
+
 channel-unmarked : (word : List ℕ) → IsChannel word → is_marked word ≡ false
 channel-unmarked word is = by (is_marked word) refl
   where
