@@ -68,8 +68,10 @@ front_carried (suc n) (b ∷ bytes) all =
 pub cut_carried : (text : List ℕ) → IsCarried text → IsCarriedText (cut_words text)
 unfolding cut_words
 cut_carried text carried =
-    record { fits = length-take_bound max_words text;
-          carried = front_carried max_words text carried }
+    record {
+      fits = length-take_bound max_words text;
+      carried = front_carried max_words text carried;
+    }
 
 pub reason_carried : (more : List (List ℕ)) (other : List ℕ) → AllByRecursion IsCarried more
     → IsCarried other → IsCarriedText (reason_given more other)

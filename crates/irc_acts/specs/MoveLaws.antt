@@ -32,10 +32,10 @@ same_is_fold channel name =
     by_fold false false one alike = refl
     by_fold true false one alike =
         absurd (true≢false (sym ((same-tells channel name).1
-                  (sym (one_fold (key name) (key channel) one))) ∙ alike))
+        (sym (one_fold (key name) (key channel) one))) ∙ alike))
     by_fold false true one alike =
         absurd (true≢false (sym (same_fold-refl (key name))
-                ∙ ap (same_fold (key name)) (sym ((same-tells channel name).0 alike)) ∙ one))
+        ∙ ap (same_fold (key name)) (sym ((same-tells channel name).0 alike)) ∙ one))
 
 -- the row of a channel once the row of a channel is changed, by their names
 pub row_changed : (room : Room) (channel name : List ℕ) (change : Option Channel → Option Channel)

@@ -21,6 +21,7 @@ at_head x xs = ap (λ b. b || list_any (same x) xs) (same_when x x refl)
 
 behind_head : (x : Name) (xs : List Name) (name : Name) → IsAmong xs name → IsAmong (x ∷ xs) name
 behind_head x xs name among = or_right (same name x) (list_any (same name) xs) among
+
 -- somebody is read, or there is another for whom too much waits
 data Found (full : List Name) (who : Name) : Type 0 where
   read : is_read_beside same full who ≡ true → Found full who

@@ -41,6 +41,7 @@ no_comma (byte ∷ text) past = by (is_comma byte) past (no_comma text)
 pub all_last : (f : List ℕ → Bool) (text : List ℕ) → length text ≤ position_or_len is_comma text
     → list_all f (slice_split is_comma text) ≡ f text
 all_last f text past = ap (list_all f) (no_comma text past) ∙ and-true (f text)
+
 pub all_on : (f : List ℕ → Bool) (text : List ℕ) → position_or_len is_comma text < length text
     → list_all f (slice_split is_comma text) ≡ (f (before_first is_comma text)
     && list_all f (slice_split is_comma (after_first is_comma text)))

@@ -143,8 +143,9 @@ module _ (far : List ℕ → Bool) (channel : List ℕ) where
       new_after room member x (same member.0 x.0) (same_is member.0 x.0 (same member.0 x.0) refl)
       ∙ ap (λ b. b && not (same member.0 x.0)) (step x)
       ∙ and_neither (is_new_member far first channel x) (is_member_among members x.0)
-          (same member.0 x.0)
+      (same member.0 x.0)
       ∙ ap (λ b. is_new_member far first channel x && not b) (sym (among_more members member x.0))
+
   abbrev AreTaken : Room → List (List ℕ × Flags) → Type 0
   AreTaken first more = (room : Room) (members : List (List ℕ × Flags)) → InStep first room members
       → members ++ new_members far room channel more ≡ fold (taken first) members more

@@ -896,6 +896,7 @@ module _ {W : Type 0} (is_after : W → List Call → Type 0) (pieces : PiecesCo
             (ap has_item served_is
             ∙ list_any-append (λ event. not (is_link_line event)) first_served second_served
             ∙ or_comm (has_item first_served) later ∙ is)
+
         -- ---- servers at the start, between and at the end
 
         server_here : HasServer (numbers_at old place) engine (node_at net.network place)
@@ -1436,6 +1437,7 @@ module _ {W : Type 0} (is_after : W → List Call → Type 0) (pieces : PiecesCo
             net_still : AllStill net
             net_still =
                 f.still (or-true later)
+
             first_closed : (y q : ℕ) → new.ends place y ≡ Some q
                 → is_closed_by q (f.asked.first ++ f.asked.more) ≡ false
             first_closed y q is =

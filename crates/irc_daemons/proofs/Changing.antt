@@ -65,6 +65,7 @@ use Rattle.irc_daemons.proofs.Telling.{told_followed}
 pub either_first : (a b c d is was : Bool)
     → (if (a && b) || (c && d) then is else was) ≡ (if (c && d) || (a && b) then is else was)
 either_first a b c d is was = ap (λ t. if t then is else was) (or_comm (a && b) (c && d))
+
 module _ {W : Type 0} (old : Daemons W) (place other : ℕ) (two : nat_eq place other ≡ false) where
   -- what a way is then, by where it is
   pub data WayThen (is : Bool) (x y : ℕ) : Type 0 where

@@ -214,7 +214,6 @@ no_byte_comes count = λ i. record { begun = begun_is i; bytes = sym (drop-nil c
     begun_is = new_is_real ∙ ap (begun_behind nothing_begun) (sym (take-nil count))
 
 module _ (from to count : ℕ) (net : ByteNetwork) where
-
   -- on the way on which they come, and on no other
   pub come_at : (x y : ℕ) → wire_at (wires_come net from to count) x y
       ≡ come_if count (nat_eq x from && nat_eq y to) (wire_at net.wires x y)

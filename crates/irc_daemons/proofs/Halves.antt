@@ -186,7 +186,7 @@ module _ (n f : ℕ) (on off : ReadEvent) (vn vf : View) (start mid last turn : 
     same_far y true way =
         second.waits_here y (first.ways f y ∙ way)
         ∙ ap (λ ls. ls ++ bodies y (reply vf off).out)
-            (first.waits_there f y (nat_eq-turned f n ∙ two))
+        (first.waits_there f y (nat_eq-turned f n ∙ two))
         ∙ sym (other.waits_here y way)
     same_far y false none =
         no_way_waits last f y (second.ways f y ∙ first.ways f y ∙ none)

@@ -632,7 +632,7 @@ module _ (server : Option View) (connections : ℕ → Option Connection)
         (one.has q view is);
     lost_is_gone =
         λ q is_lost. none_if_not_some (new q)
-            (there_as q ∙ ap is_some (one.lost_is_gone q is_lost));
+        (there_as q ∙ ap is_some (one.lost_is_gone q is_lost));
   }
     where
       by : (l : Option ConnectionKind) (q : ℕ) → known_kind (new q) l ≡ known_kind (connections q) l

@@ -148,7 +148,7 @@ module _ (conn : ℕ) (P : Connection → Connection → Type 0) (Q : Type 0)
       set : IsSet (connection_of old) conn now (connection_of new)
       set =
           dense_set old new conn now
-              (slice_get_within old.dense.items conn slot (sym was)) dense sparse
+          (slice_get_within old.dense.items conn slot (sym was)) dense sparse
 
       same : now ≡ None → connection_of old conn ≡ None → (q : ℕ) (t : Bool) → nat_eq conn q ≡ t
           → cond t now (connection_of old q) ≡ connection_of old q

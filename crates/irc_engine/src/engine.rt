@@ -197,7 +197,7 @@ impl<W: Wire, M: Machine> Core<W, M> {
         requires { IsSettledIn M.server_of self.old }
         ensures settled { OnOk result (IsSettledIn M.server_of self.new) }
         ensures done { OnOk result
-              (Spans (DoesBy W.is_after M.server_of M.handles M.dues sizes ready)
+            (Spans (DoesBy W.is_after M.server_of M.handles M.dues sizes ready)
             self.old self.new) }
         ensures quiet { is_never M.dues ≡ true → brings_nothing ready ≡ true
             → IsNobodyNoted self.old → result ≡ Ok tt }

@@ -22,7 +22,7 @@ impl<W: Wire, M: Machine> Engine<W, M> {
     /// As [`Engine::turn`], for that turn.
     pub fn run_telling<E: Write>(&mut self, turns: u64, errors: &mut E) -> Result<(), EngineFault>
         ensures { RunsTellingBy W.is_after M.server_of M.handles M.dues (engine_view self.old)
-              (E.contents
+            (E.contents
             errors.old) turns
             (engine_view self.new) (E.contents errors.new) result }
     {

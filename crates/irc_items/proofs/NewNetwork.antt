@@ -125,6 +125,7 @@ module _ (world_holds : TakenMakeWorld) (side : SideAtRestIsSound) (net : Networ
 
   none_both : (t x : Name) → (joined [] x t && not (same x t)) ≡ false
   none_both t x = ap (λ b. b && not (same x t)) (one_part x t) ∙ and-not_self (same x t)
+
   right : AreRight s [] (routes_in net)
   right = record {
     named = λ t among. (there net new.set_up t among).named;

@@ -318,7 +318,7 @@ user_back : (b c : Bool) (o : Option User) → (is_some o ≡ true → c ≡ not
     → either (cond b None o) (cond c None o) ≡ o
 user_back b c None apart =
     (λ i. either (same_either_way {X = Option User} b None i)
-          (same_either_way {X = Option User} c None i))
+    (same_either_way {X = Option User} c None i))
 user_back true c (Some user) apart = ap (λ (d : Bool). cond d None (Some user)) (apart refl)
 user_back false c (Some user) apart = refl
 

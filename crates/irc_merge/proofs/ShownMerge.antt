@@ -153,6 +153,7 @@ module _ (far : List ℕ → Bool) (room other : Room) (well : IsWellFormed room
   there_stays : (q : List ℕ) → not (away q) ≡ true → row there.users q ≡ row other.users q
   there_stays q stays = users_without other room well_other q ∙ ap (λ b. cond b None
       (row other.users q)) (sym (clashing other room well_other q) ∙ not-true (away q) stays)
+
   over_kept : (title : List ℕ) (es : List (List ℕ × Flags))
       → AllByRecursion (λ e. is_some (row other.users e.0) ≡ true) es
       → flat_map (member_arrival there.users mine title) (filter (λ e. not (away e.0)) es)

@@ -93,7 +93,7 @@ any_placed m mask (ban ∷ bans) = by (before ban mask) (any_placed m mask bans)
         ≡ (same m mask || (same m ban || list_any (same m) bans))
     by true rest =
         ap (λ b. same m ban || b) rest
-            ∙ or_swapped (same m ban) (same m mask) (list_any (same m) bans)
+        ∙ or_swapped (same m ban) (same m mask) (list_any (same m) bans)
     by false rest = refl
 
 length_placed : (mask : List ℕ) (bans : List (List ℕ))

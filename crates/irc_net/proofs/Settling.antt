@@ -140,6 +140,7 @@ module _ (laws : AreTurning) where
       let now = turns_kept laws turns.goes kept in
       leaves_fewer fewer (most_now (net_in_lines first.state)) lines old new now.kept
       (le_of_eq now.keeps.most) goes
+
   -- none is left
   pub settles_at : NoByteRests → {first : Progress ByteNetwork} (old new : Progress ByteNetwork)
       (counted : ℕ) → IsKeptSound first.state → GoesCounted counted first old

@@ -202,7 +202,7 @@ module _ (net : Network) (wires : Wires) (lean : AreLean wires)
       ∙ sym (ap (λ n. waiting_at net n y) (eqb-true x place one))
   apart_to x y two false other =
       left_elsewhere net place to node lines (lines ++ line ∷ []) at way x y
-          (eqb-false x place other)
+      (eqb-false x place other)
 
   wire_is : (x y : ℕ) → wire_at (with_wire place to now out) x y
       ≡ all_written (waiting_at after_queued x y) (wire_at wires x y)

@@ -311,7 +311,7 @@ module _ (numbers : Numbers) (own other : Known) (alike : AreKnownAlike numbers 
         by (Some mine) None is = absurd is
         by (Some mine) (Some theirs) is =
             nat_eq-turned place theirs.link ∙ same_link theirs.link mine.link is.1
-                ∙ nat_eq-turned mine.link conn
+            ∙ nat_eq-turned mine.link conn
 
     pub token_same : (token : ℕ) → token_in other place token ≡ token_in own conn token
     token_same token =

@@ -204,7 +204,7 @@ takes conn bytes n old mid new stays changes = λ calls all.
     (λ t is. grows conn t (with_written (take n bytes) t) calls (writes conn bytes (Ok n)) []
     (take n bytes) false refl
     (ap (λ b. cond b (take n bytes) []) (eq-eqb conn conn refl)) refl
-        (sym (append-nil t.taken)) refl
+    (sym (append-nil t.taken)) refl
     (sym (or-false t.closed)) is)
     (λ q two t is. quiet q t calls (writes conn bytes (Ok n)) refl
     (ap (λ b. cond b (take n bytes) []) two) refl is) changes (stays calls all)
@@ -214,7 +214,7 @@ pub closed_told : (conn : ℕ) (old new : BTreeMap ℕ Far) → Changes conn wit
 closed_told conn old new changes = λ calls all.
     told_on conn with_close old new calls (closes conn ∷ [])
     (λ t is. grows conn t (with_close t) calls (closes conn) [] [] true refl refl
-          (eq-eqb conn conn refl)
+    (eq-eqb conn conn refl)
     (sym (append-nil t.taken)) (sym (append-nil t.written))
     (sym (or-true t.closed)) is)
     (λ q two t is. quiet q t calls (closes conn) refl refl two is) changes all

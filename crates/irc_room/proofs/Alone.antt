@@ -74,7 +74,7 @@ alone_folds {X} nick table = by_test (list_any (another nick) (keys table)) refl
         by_row : same_fold q nick ≡ false → (b : Bool) → is_some (row table q) ≡ b
             → row table q ≡ None
         by_row two true there = absurd (false≢true (sym none
-                ∙ any_at (another nick) q (keys table) (row-keys table q ∙ there) (ap not two)))
+            ∙ any_at (another nick) q (keys table) (row-keys table q ∙ there) (ap not two)))
         by_row two false out = none_if_not_some (row table q) out
 
         by_fold : (b : Bool) → same_fold q nick ≡ b → cond b None (row table q) ≡ None

@@ -356,6 +356,7 @@ pub uninvited_out : (nick : List ℕ) (o : Option Channel) → said is_uninvited
     → said is_invited nick o ≡ false
 uninvited_out nick None there = refl
 uninvited_out nick (Some channel) there = not-true (is_invited nick channel) there
+
 -- ---- what the code goes through, and what it leaves out
 
 module _ (rows : List (Row (Unit {0}))) (i : ℕ) (d : Row (Unit {0}))

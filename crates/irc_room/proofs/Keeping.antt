@@ -27,7 +27,7 @@ out_stays : (nick : List ℕ) (channel : Channel) (fault : ChannelsFault) (b : B
     → left nick channel ≡ Some channel
 out_stays nick channel fault true in_it is =
     absurd (none-some fault
-          (sym (is ∙ cond-true (has_member nick channel) None (Some NotMember) in_it)))
+    (sym (is ∙ cond-true (has_member nick channel) None (Some NotMember) in_it)))
 out_stays nick channel fault false out is = if_not (has_member nick channel) _ _ (ap not out)
 
 -- a member who does not leave leaves all as it is

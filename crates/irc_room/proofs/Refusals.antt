@@ -62,8 +62,11 @@ pub served : (kept : ServerRoom) (effect : Effect) → room_fault kept effect �
 served kept effect is =
     let parts = no_cause kept.failed (not (list_all (has_user kept.room) (needs_users effect)))
     (not (option_map_or (has_channel kept.room) (needs_channel effect) true)) is in
-    record { alive = parts.0; users_there = not-false _ parts.1;
-          channel_there = not-false _ parts.2 }
+    record {
+      alive = parts.0;
+      users_there = not-false _ parts.1;
+      channel_there = not-false _ parts.2;
+    }
 
 -- a room that was changed, or was not for want of memory, field by field
 pub kept_changed : (inside now : ServerRoom) (room : Room) (effect : Effect) → inside ≡ now

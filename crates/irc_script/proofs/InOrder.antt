@@ -76,7 +76,7 @@ behind_front : (x y : Name) (xs ys : List Name) → x ≡ y
     → ((z : Name) → times z (x ∷ xs) ≡ times z (y ∷ ys)) → (z : Name) → times z xs ≡ times z ys
 behind_front x y xs ys front same z =
     add_left_cancel (one z x) (sym (sum_by-cons (one z) x xs) ∙ same z
-          ∙ ap (λ w. times z (w ∷ ys)) (sym front) ∙ sum_by-cons (one z) x ys)
+    ∙ ap (λ w. times z (w ∷ ys)) (sym front) ∙ sum_by-cons (one z) x ys)
 
 nowhere_in : (x y : Name) (ys : List Name) → slice_cmp nat_cmp x y ≡ Less → exceeds_one y ys ≡ false
     → times x (y ∷ ys) ≡ 0

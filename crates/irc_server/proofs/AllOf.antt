@@ -70,7 +70,7 @@ all-picked {X} p q b g gives (x ∷ xs) all =
         (filter_map (λ (y : X). if b y then Some (g y) else None) xs)) ≡ true
     by true later =
         and_from (q (g x))
-            (list_all q (filter_map (λ (y : X). if b y then Some (g y) else None) xs))
+        (list_all q (filter_map (λ (y : X). if b y then Some (g y) else None) xs))
         (gives x (first_so (p x) (list_all p xs) all)) later
     by false later = later
 

@@ -103,7 +103,7 @@ module _ (start : View) where
       all-map (λ (e : ℕ × End). had_link start e.0) (had_link start) (λ (e : ℕ × End). e.0)
       (λ e is. is) _
       (list_all-filter (λ (e : ℕ × End). had_link start e.0) (λ (e : ℕ × End). is_met e.1)
-            (entries ends)
+      (entries ends)
       (all_entries ends (had_link start) had))
 
   toward_own : (ends : Ends) (known : Known) → ((link : ℕ) → is_some (get ends link) ≡ true

@@ -83,7 +83,7 @@ module _ (machine : RoomMachine) (by_nick : Table ℕ) (index : IsIndex machine.
       is ∙ ap (λ target. Say by notice target words) for in
       one_heard machine.room well by_nick nick
       (first_so _ true (second_so _ _ (sym (ap (λ e. list_all (has_user machine.room)
-                  (needs_users e)) said_so) ∙ possible.users_there)))
+      (needs_users e)) said_so) ∙ possible.users_there)))
       ∙ ap (hearers machine.room by_nick) (sym said_so))
 
   pub told_alone : (nick : List ℕ) → IsSaidTo nick effect → (q : List ℕ)

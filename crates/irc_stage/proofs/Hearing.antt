@@ -216,6 +216,7 @@ module _ (room : Room) (well : IsWellFormed room) where
         in_list room by_nick (is_beside room nick) well (users_beside nick) (row lists c) (λ q.
         so.at c q ∙ ap (λ b. if b then row by_nick q else None)
         (sym (or-false (is_in room q c)) ∙ ap (list_any (is_in room q)) (sym is)))
+
     found_beside : (q : List ℕ) (cs : List (List ℕ)) (found : List Entry) (t : Bool)
         → T (is_sorted fold_cmp found)
         → find fold_cmp q found ≡ (if t then row by_nick q else None)
@@ -260,6 +261,7 @@ module _ (room : Room) (well : IsWellFormed room) where
         (λ q. is_nick_of nick q || is_beside room nick q)
         (λ q. sym (or-false (is_nick_of nick q))
         ∙ ap (λ cs. is_nick_of nick q || list_any (is_in room q) cs) (sym none))
+
     own_beside : (c : List ℕ) (cs : List (List ℕ)) → names_of room nick ≡ c ∷ cs
         → is_beside room nick (key nick) ≡ true
     own_beside c cs is =

@@ -128,7 +128,7 @@ waits now place gone held OthersFull talkers not_due =
     ap (λ full. is_read_beside nat_eq full held.who) (sym (same_full gone.reason talkers)) ∙ not_due
 waits now place gone held (Grown mark) talkers not_due =
     not_from_true _
-        (before (is_grown_one talkers.marks mark) place gone talkers mark.number (λ s e. e)
+    (before (is_grown_one talkers.marks mark) place gone talkers mark.number (λ s e. e)
     (λ s e. e)
     (ap (λ marks. is_grown_one marks mark (talker_at (let_go_one place gone talkers) mark.number))
     (sym (same_marks gone.reason talkers)) ∙ not-false _ not_due))

@@ -88,7 +88,7 @@ free_then {X} table nick new free = by_name (same nick new) refl
         row-alter (key nick) (λ _. None) table (key new)
         ∙ either (same_fold (key new) (key nick)) (row table (key new))
         (none_if_not_some (row table (key new))
-              (ap (λ b. not b && is_some (row table (key new))) (sym two)
+        (ap (λ b. not b && is_some (row table (key new))) (sym two)
         ∙ free))
 
 -- what holds anyway holds of an error

@@ -100,7 +100,7 @@ module _ (homes : ℕ → Option Name) (user_home : List ℕ → Option Name)
       (λ client fold home was of_client of_user is.
       clients_are client
       ∙ ap (λ b. cond b None (registered client))
-          (false_from_ne_true (same_number client gone) (λ one.
+      (false_from_ne_true (same_number client gone) (λ one.
       let fold_is =
       same_Some fold left (sym was ∙ ap registered (one_number client gone one) ∙ is_gone) in
       let none = sym (users_are fold ∙ ap (λ b. cond b None (user_home fold))
@@ -216,7 +216,7 @@ module _ (homes : ℕ → Option Name) (user_home : List ℕ → Option Name)
               of_client = one.of_client;
               of_user =
                   at_other fold
-                      (false_from_ne_true (same_fold fold new) (not_new client fold was two)) two
+                  (false_from_ne_true (same_fold fold new) (not_new client fold was two)) two
                   ∙ one.of_user;
             });
         user_has_one = λ client other fold is is_other. moves client fold is

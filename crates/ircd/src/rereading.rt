@@ -122,10 +122,7 @@ fn read_again<T: AllocGlobal + Files, E: Write>(
 }
 
 /// What the configuration says now, and what of it changes.
-fn change_in<T: AllocGlobal + Files>(
-    rt: &T,
-    watch: &Watch,
-) -> Result<(Settings, Change), Rereading>
+fn change_in<T: AllocGlobal + Files>(rt: &T, watch: &Watch) -> Result<(Settings, Change), Rereading>
     ensures { IfOk result (λ read. IsChangeOf watch.now.client_room read.0 read.1) }
 {
     let text = text_of(rt, watch)?;
@@ -174,12 +171,7 @@ fn motd_of<T: AllocGlobal + Files>(
 }
 
 /// Says of each of these keys that it waits for a restart, if something else stands there now.
-fn say_restarts<E: Write>(
-    keys: &[FixedKey],
-    first: &Settings,
-    now: &Settings,
-    errors: &mut E,
-)
+fn say_restarts<E: Write>(keys: &[FixedKey], first: &Settings, now: &Settings, errors: &mut E)
     ensures { AreRestartsSaid keys.now first.now now.now (E.contents errors.old)
         (E.contents errors.new) }
 {

@@ -105,7 +105,7 @@ limit_apart word before is other e =
     ap Some (sym (number_still word)) ∙ sym (ap
     (λ b. cond b (Some (number_of (without_zeros word))) before) (limit_still word is)) ∙ e in
     absurd (true≢false (sym (eq-eqb (number_of word) (number_of word) refl)
-            ∙ ap (λ o. option_map_or (nat_eq (number_of word)) o false) set ∙ other))
+    ∙ ap (λ o. option_map_or (nat_eq (number_of word)) o false) set ∙ other))
 
 some_apart : {X : Type 0} (before : Option X) → is_some before ≡ true → None ≢ before
 some_apart None there e = cc
@@ -125,16 +125,16 @@ set_apart : (mask : List ℕ) (bans : List (List ℕ)) → is_ban_mask mask ≡ 
     → find (same mask) bans ≡ None → cond (is_ban_mask mask) (with_ban mask bans) bans ≢ bans
 set_apart mask bans is none e =
     absurd (true≢false (sym (set_there mask bans)
-            ∙ ap (list_any (same mask)) (sym (ap (λ b. cond b (with_ban mask bans) bans) is) ∙ e)
-            ∙ sym (find_any (same mask) bans) ∙ ap is_some none))
+    ∙ ap (list_any (same mask)) (sym (ap (λ b. cond b (with_ban mask bans) bans) is) ∙ e)
+    ∙ sym (find_any (same mask) bans) ∙ ap is_some none))
 
 taken_apart : (mask there : List ℕ) (bans : List (List ℕ)) → is_ban_mask mask ≡ true → find
     (same mask) bans ≡ Some there → cond (is_ban_mask there) (without_ban there bans) bans ≢ bans
 taken_apart mask there bans is found e =
     absurd (true≢false (sym (ap is_some found) ∙ find_any (same mask) bans
-            ∙ any_alike mask there (find_passes (same mask) bans there found) bans
-            ∙ ap (list_any (same there)) (sym e ∙ ap (λ b. cond b (without_ban there bans) bans)
-              (stored_is_mask mask there bans is found)) ∙ taken_gone there bans))
+    ∙ any_alike mask there (find_passes (same mask) bans there found) bans
+    ∙ ap (list_any (same there)) (sym e ∙ ap (λ b. cond b (without_ban there bans) bans)
+    (stored_is_mask mask there bans is found)) ∙ taken_gone there bans))
 
 -- a member's flag that is another makes its row another
 flag_apart : (members : Table Flags) (nick word : List ℕ) (flags : Flags) (f : Flags → Flags)

@@ -57,7 +57,7 @@ flags_is effects nick name =
     by_row None = refl
     by_row (Some c) =
         row_listed (λ f. f) c.members (key nick)
-            ∙ option_map_id (find fold_cmp (key nick) c.members)
+        ∙ option_map_id (find fold_cmp (key nick) c.members)
 
 pub invited_is : (effects : List Effect) (nick name : List ℕ)
     → invited_to (room_after effects) nick name

@@ -69,8 +69,8 @@ module _ (home old new nick : List ℕ) (users : Table User) (invited : Table (U
           → b ≡ false
       apart_new u at true one =
           absurd (false≢true (sym (apart_old u at (same_fold q old) refl)
-                  ∙ ap (λ f. same_fold f old) (one_fold q new one) ∙ free (ap (λ f.
-                      is_some (row users f)) (sym (one_fold q new one)) ∙ known q (ap is_some at))))
+          ∙ ap (λ f. same_fold f old) (one_fold q new one) ∙ free (ap (λ f.
+          is_some (row users f)) (sym (one_fold q new one)) ∙ known q (ap is_some at))))
       apart_new u at false apart = refl
 
       still : (u : Unit {0}) → row invited q ≡ Some u → (o : Option User)

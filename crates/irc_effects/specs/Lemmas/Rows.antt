@@ -49,7 +49,7 @@ no_row table none = by_test (is_nil (keys table)) refl
     by_test true e = refl
     by_test false e =
         let found =
-            some_row table e in absurd (false≢true (sym (ap is_some (none found.0)) ∙ found.1))
+        some_row table e in absurd (false≢true (sym (ap is_some (none found.0)) ∙ found.1))
 
 -- a row that is changed into itself leaves the table as it is
 pub alter_same : {X : Type 0} (fold : List ℕ) (change : Option X → Option X) (table : Table X)

@@ -23,8 +23,10 @@ pub record IsWithin {X Y : Type 0} (small : Table X) (large : Table Y) : Type 0 
 
 pub empty_within : {X Y : Type 0} (table : Table Y) → IsWithin (empty {X = X} {R = fold_cmp}) table
 empty_within {X} table =
-    record { at = λ q there.
-          absurd (false≢true (sym (ap is_some (get-empty {X = X} fold_cmp q)) ∙ there)) }
+    record {
+      at = λ q there.
+          absurd (false≢true (sym (ap is_some (get-empty {X = X} fold_cmp q)) ∙ there));
+    }
 
 -- a change of one row that keeps the table within another
 pub alter_within : {X Y : Type 0} (fold : List ℕ) (change : Option X → Option X) (small : Table X)
@@ -226,7 +228,7 @@ joined_sound users fold nick op channel names there = by_test (has_member nick c
           channel.members users names.members (λ e. there)).at;
       invited_known =
           (alter_within nick (λ _. None) channel.invited users names.invited
-                (λ e. absurd (false≢true e))).at;
+          (λ e. absurd (false≢true e))).at;
       some_member = some_key _ nick (ap is_some
           (row-alter_same nick (λ _. Some (record { op = op; voice = false })) channel.members));
     }

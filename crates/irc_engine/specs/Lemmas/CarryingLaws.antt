@@ -101,6 +101,7 @@ module _ (conn : ℕ) (a b : List Call) (x y : List Sent) where
       then ∙ ap (λ t. t && not (is_closed_by conn y)) is
       ∙ and_neither is_open (is_closed_by conn x) (is_closed_by conn y)
       ∙ ap (λ t. is_open && not t) (sym (is_closed_by-append conn x y))
+
   never_on : times_closed conn a ≡ 0 → (n : ℕ) → times_closed conn b ≡ n
       → times_closed conn (a ++ b) ≡ n
   never_on none n is = times_closed-append conn a b ∙ ap (λ m. m + times_closed conn b) none

@@ -34,6 +34,7 @@ all_in (user ∷ users) all more = (
       (ap (λ b. b || among users (key user.nick)) (same_fold-refl (key user.nick))),
   all_in users all (λ q is. more q (or_right (same_fold q (key user.nick)) (among users q) is)),
 )
+
 each_of : (name : Name) (room : Room) → IsWellFormed room → (users : List User)
     → AllByRecursion (λ (user : User). among (users_at name room) (key user.nick) ≡ true) users
     → AllByRecursion (IsOf name room) users

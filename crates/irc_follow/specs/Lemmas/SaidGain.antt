@@ -109,6 +109,7 @@ module _ (s : ItemSetting) (fixed : IsItemSetting s) (p t : Name) (w : of_side.S
   other_end x other =
       ap (λ b. if linked w.tree.forest t x then Some (if b then Some x else None) else None)
       (ap (λ b. w.tree.knows x || b) other ∙ or-false (w.tree.knows x))
+
   not_linked : name ≢ p → linked w.tree.forest t name ≡ false
   not_linked two = by (linked w.tree.forest t name) refl
     where

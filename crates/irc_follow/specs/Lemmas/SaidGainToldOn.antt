@@ -273,7 +273,7 @@ module _ (known : IsKnownOfLines) (uplink name words : List ℕ) (s : ItemSettin
   next_so : is_next_distance far_reader uplink links ≡ true
   next_so =
       and_from
-          (option_map_or (λ far. nat_eq links (far + 1)) (distance_of other.routes uplink) true)
+      (option_map_or (λ far. nat_eq links (far + 1)) (distance_of other.routes uplink) true)
       (nat_lt links max_number)
       (ap (λ o. option_map_or (λ far. nat_eq links (far + 1)) o true)
       (ap (λ routes. distance_of routes uplink) reader.routes

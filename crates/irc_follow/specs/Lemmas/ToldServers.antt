@@ -25,7 +25,6 @@ use Rattle.irc_follow.specs.Lemmas.BehindLinks.{joined_test, row_is_there, row_s
 use Rattle.irc_follow.specs.Lemmas.PlacesOfNames.{one_place}
 
 module _ (p : ServerRow → Bool) where
-
   any_inserted : (rows : List ServerRow) (n : ℕ) (r : ServerRow)
       → list_any p (insert rows n r) ≡ (p r || list_any p rows)
   any_inserted rows zero r = refl
@@ -104,8 +103,8 @@ module _ (s : ItemSetting) (links : List Link) (routes : Name → Known) (t u x 
       let two : x ≢ t = subst (λ n. n ≢ t) named says.apart in
       let not_over : toward links t x ≡ u → ⊥ =
       λ way. both_ways (is_behind (number s u) at.value) (not-true (is_behind (number s u) at.value)
-            parts.0) (eq-eqb at.value.link (number s u) (ap (λ (sh : Shape). sh.link) says.shape
-              ∙ ap (λ n. index_in s.names (toward links t n)) named ∙ ap (index_in s.names) way)) in
+      parts.0) (eq-eqb at.value.link (number s u) (ap (λ (sh : Shape). sh.link) says.shape
+      ∙ ap (λ n. index_in s.names (toward links t n)) named ∙ ap (index_in s.names) way)) in
       and_from _ _ (joined_test left x t (this_side together not_over))
       (ap not (same_unless x t two))
     where

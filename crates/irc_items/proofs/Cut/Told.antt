@@ -165,7 +165,7 @@ module _ (known : IsKnownOfLines) (s : ItemSetting) (fixed : IsItemSetting s) (t
       (and_from (is_server t) (is_server name && is_known other.routes name)
       (rule t doable.by_server.known)
       (and_from (is_server name) (is_known other.routes name)
-            (rule name doable.can.known) known_there))
+      (rule name doable.can.known) known_there))
 
   line_back : read_of (line_text parts) ≡ Ok (message_of parts)
   line_back = sym (known.alone (line_text parts) (Ok (message_of parts))

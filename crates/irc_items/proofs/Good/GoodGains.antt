@@ -128,6 +128,7 @@ module _ (s : ItemSetting) (links : List Link) (p t : Name) (w : of_side.SideSta
     knows_it : same p name ≡ true → later_side.tree.knows p ≡ true
     unfolding done
     knows_it is = ap (λ b. w.tree.knows p || b) is ∙ or-true (w.tree.knows p)
+
     -- by a line of a server that is there
     told_there : same name p ≡ false → IsToldOn s p view (neighbour_served s p view line)
     told_there other = record {

@@ -48,6 +48,7 @@ no_nul (byte ∷ bytes) all =
 no_colon : (bytes : List ℕ) → starts_without_colon bytes ≡ true → begins is_colon bytes ≡ false
 no_colon [] starts = refl
 no_colon (byte ∷ bytes) starts = not-true (is_colon byte) starts
+
 some_bytes : (bytes : List ℕ) → starts_without_colon bytes ≡ true → bytes ≢ []
 some_bytes [] starts = cc starts
 some_bytes (byte ∷ bytes) starts = λ e. cc e

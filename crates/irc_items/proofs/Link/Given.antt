@@ -102,7 +102,7 @@ is_word_for view name word all is = by (find (is_named name) view.peers) refl
         let f : Some peer.password ≡ Some word =
         sym (ap (option_map (λ (peer : KnownPeer). peer.password)) e) ∙ is in
         sym (ap is_password (same_Some _ _ f))
-            ∙ found_so HasPassword (is_named name) view.peers peer all e
+        ∙ found_so HasPassword (is_named name) view.peers peer all e
 
 -- the word that both have
 record IsShared (one other : Option (List ℕ)) : Type 0 where

@@ -96,6 +96,7 @@ module _ (laws : AreRoomLaws) {s : ItemSetting} {l : Link} {world : World} {rout
   b_known : knows b ≡ true
   b_known =
       ap (λ c. joined links b t || c) (joined_test links b b refl) ∙ or-true (joined links b t)
+
   t_apart : AreJoined links t b → ⊥
   t_apart = (over laws.sides is).apart
 
@@ -299,6 +300,7 @@ module _ (laws : AreRoomLaws) {s : ItemSetting} {l : Link} {world : World} {rout
 
         home_known : knows user.home ≡ true
         home_known = or_right (joined links user.home t) (far user.home) home_far
+
         their_limits : IsWithinLimits (of_home b their_room)
         their_limits = (alike_keep_limits (of_home b their_room) their_room
             (home_is_alike b their_room)).1 within_there

@@ -175,7 +175,7 @@ there net set_up server among = by_node (node_at net (index_in net.names server)
           is_view = is ∙ ap Some (sym seen);
           named = ap (λ (v : View). v.routes.name) seen
               ∙ same_Some _ _ (same_Some _ _ (sym (ap (option_map named_at) at
-                        ∙ ap (λ o. Some (option_map (λ (v : View). v.routes.name) o)) is) ∙ given));
+              ∙ ap (λ o. Some (option_map (λ (v : View). v.routes.name) o)) is) ∙ given));
         }
 
     by_view : (node : Node) → node_at net (index_in net.names server) ≡ Some node
@@ -183,7 +183,7 @@ there net set_up server among = by_node (node_at net (index_in net.names server)
     by_view node at (Some view) is = of_view node at view is
     by_view node at None is =
         absurd (none-some _ (same_Some _ _ (sym (ap (option_map named_at) at
-                    ∙ ap (λ o. Some (option_map (λ (v : View). v.routes.name) o)) is) ∙ given)))
+        ∙ ap (λ o. Some (option_map (λ (v : View). v.routes.name) o)) is) ∙ given)))
 
     by_node : (o : Option Node) → node_at net (index_in net.names server) ≡ o → IsThere net server
     by_node (Some node) at = by_view node at node.server refl

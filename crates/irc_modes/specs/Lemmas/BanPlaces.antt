@@ -205,7 +205,7 @@ rises-filter q [] rising = refl
 rises-filter q (ban ∷ bans) rising =
     by (q ban)
     (list_all-filter (before ban) q bans
-          (first_so (list_all (before ban) bans) (rises bans) rising))
+    (first_so (list_all (before ban) bans) (rises bans) rising))
     (rises-filter q bans (second_so (list_all (before ban) bans) (rises bans) rising))
   where
     by : (test : Bool) → list_all (before ban) (filter q bans) ≡ true → rises (filter q bans) ≡ true

@@ -179,6 +179,7 @@ so_of_entries Q (e ∷ es) sorted so =
 
 sorted_table : (bans : Table (List ℕ)) → is_sorted fold_cmp (entries bans) ≡ true
 sorted_table bans = is_true (is_sorted fold_cmp (entries bans)) (entries_sorted bans)
+
 -- what is so of each row is so of each entry
 pub entries_so : (Q : List ℕ → List ℕ → Type 0) (bans : Table (List ℕ)) → EachRow Q bans
     → AllByRecursion (λ e. Q e.0 e.1) (entries bans)

@@ -25,7 +25,7 @@ find_placed m w (ban ∷ bans) none =
   where
     not_both : same w m ≡ true → same m ban ≡ true → ⊥
     not_both one other = absurd (true≢false (sym other ∙ sym (same-equivalence.congr w m ban one)
-            ∙ (or_parts (same w ban) (list_any (same w) bans) none).0))
+        ∙ (or_parts (same w ban) (list_any (same w) bans) none).0))
 
     by : (test : Bool) → find (same m) (placed w bans)
         ≡ cond (same w m) (Some w) (find (same m) bans)
@@ -67,12 +67,12 @@ find-without_ban m w (ban ∷ bans) = by (same w ban) refl (find-without_ban m w
         rest
         ∙ out (same w m) (same m ban) (Some ban) (find (same m) bans)
         (λ other alike. absurd (true≢false (sym is ∙ same-equivalence.symm w ban ∙ sym
-                  (same-equivalence.congr m ban w alike) ∙ same-equivalence.symm m w ∙ other)))
+        (same-equivalence.congr m ban w alike) ∙ same-equivalence.symm m w ∙ other)))
     by false is rest =
         ap (cond (same m ban) (Some ban)) rest
         ∙ stays (same w m) (same m ban) (Some ban) (find (same m) bans)
         (λ one alike.
-              absurd (true≢false (sym alike ∙ sym (same-equivalence.congr w m ban one) ∙ is)))
+        absurd (true≢false (sym alike ∙ sym (same-equivalence.congr w m ban one) ∙ is)))
 
 -- ---- what is found behind one change
 

@@ -98,6 +98,7 @@ module _ (known : Known) (link : ℕ) (name : List ℕ) (numbered : IsNumbered k
       ap (λ b. b && pointwise nat_eq r.name name)
       ((Decides-eqb r.link link).1 (same_Some r.link link hop))
       ∙ (bytes_decides r.name name).1 (numbered.rows name r is).named)
+
   pub behind_of_link : IsTrue (is_among name (names_behind known link))
       ↔ (next_hop known name ≡ Some link)
   behind_of_link = (leads_there, λ hop. named_behind ∙ is_there (row_of known name) refl hop)

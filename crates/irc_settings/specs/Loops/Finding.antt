@@ -60,7 +60,7 @@ ReadsAsRoom most value =
 abbrev pub ReadsAsNumber : ℕ → ℕ → Data → Result ℕ SettingsFault → Type 0
 ReadsAsNumber least most value =
     FindsValue (is_of_kind (integer least most) value)
-        (λ found. as_integer value ≡ Some (pos found))
+    (λ found. as_integer value ≡ Some (pos found))
 
 -- a boolean
 abbrev pub ReadsAsFlag : Data → Result Bool SettingsFault → Type 0

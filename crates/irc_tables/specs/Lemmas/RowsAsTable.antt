@@ -154,7 +154,7 @@ module _ {X V : Type 0} (entry : X → List ℕ × V) (rows : List X) (fold : Li
   removed-sorted =
       ap (is_sorted fold_cmp) left
       ∙ is_true _ (is_sorted-where_key fold_cmp (λ k. not (eq_by_cmp fold_cmp fold k))
-            (map entry rows)
+      (map entry rows)
       (passes _ sorted))
 
   look-others : (q : List ℕ) → look q (others order fold (map entry rows))

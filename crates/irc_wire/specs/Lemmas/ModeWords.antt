@@ -34,6 +34,7 @@ use Rattle.irc_wire.specs.Lemmas.LinesReadBack.{carried_no_nul, nick_short}
 no_first_colon : (word : List ℕ) → starts_without_colon word ≡ true → begins is_colon word ≡ false
 no_first_colon [] starts = refl
 no_first_colon (byte ∷ bytes) starts = not-true (is_colon byte) starts
+
 abbrev no_spaces : List ℕ → Bool
 no_spaces bytes = list_all (λ b. not (is_space b)) bytes
 

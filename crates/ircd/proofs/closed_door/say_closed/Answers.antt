@@ -9,5 +9,5 @@ pub returns : goal.returns
 returns g c =
     said_front c.args.address _ c.error_words.result.items c.as_slice.result.now
     c.write-lost.result _ _ c.in-Some.ensures (c.as_slice.ensures.value
-          ∙ c.closed_line-line.ensures)
+    ∙ c.closed_line-line.ensures)
     c.write-lost.ensures.bytes

@@ -19,7 +19,7 @@ returns-in-Ok-First-clause-marks g c =
     (record c.args.self.now { table = c.push.new.self; waiting = c.note.new.numbers }) _
     c.in_ok-push.field-0
     (c.in-Ok-First.is ∙ ap Ok c.in-Ok-First.field-0-is) c.in_ok-push.ensures.at noted)
-        c.note.ensures
+    c.note.ensures
 
 pub returns-in-Ok-More-clause-carries : goal.returns-in-Ok-More-clause-carries
 returns-in-Ok-More-clause-carries g c =

@@ -12,7 +12,7 @@ returns-in-Some-clause-changed c =
 pub returns-in-Some-clause-idle : goal.returns-in-Some-clause-idle
 returns-in-Some-clause-idle c =
     λ idle none. absurd (none-some c.in-Some.fault (sym none
-            ∙ sym (c.in-Some.ensures (named_in _ _ _ _ c.self.view_is c.named-named.ensures))))
+    ∙ sym (c.in-Some.ensures (named_in _ _ _ _ c.self.view_is c.named-named.ensures))))
 
 pub returns-then-is_idle-clause-changed : goal.returns-then-is_idle-clause-changed
 returns-then-is_idle-clause-changed c =
@@ -55,10 +55,10 @@ pub returns-in-Ok-clause-idle : goal.returns-in-Ok-clause-idle
 returns-in-Ok-clause-idle c = λ idle none.
     let named = named_in _ c.args.self.now _ _ c.self.view_is c.named-named.ensures in
     absurd
-        (false≢true (sym c.if-is_idle.false ∙ c.is_idle.ensures c.args.self.now.room named ∙ idle))
+    (false≢true (sym c.if-is_idle.false ∙ c.is_idle.ensures c.args.self.now.room named ∙ idle))
 
 pub returns-in-Err-clause-idle : goal.returns-in-Err-clause-idle
 returns-in-Err-clause-idle c = λ idle none.
     let named = named_in _ c.args.self.now _ _ c.self.view_is c.named-named.ensures in
     absurd
-        (false≢true (sym c.if-is_idle.false ∙ c.is_idle.ensures c.args.self.now.room named ∙ idle))
+    (false≢true (sym c.if-is_idle.false ∙ c.is_idle.ensures c.args.self.now.room named ∙ idle))

@@ -39,7 +39,7 @@ returns-in_err-end c = memory_out c.args.self.now _ c.args.link c.args.line.now.
 pub returns : goal.returns
 returns c = all_set c.args.self.now _ c.in_ok-stage.stage c.in_ok-end.field-0 c.args.link
     c.of-number.result c.args.line.now.items c.deref.result.now c.in_ok-set_line.field-0
-        c.args.out.now.outs
+    c.args.out.now.outs
     c.end.new.out.outs
     (sym c.self.view_is ∙ c.in_ok-stage.ensures.taken)
     (ap (fault_at c.args.self.now) (sym c.of-number.ensures) ∙ sym c.refusal_at.ensures

@@ -23,7 +23,7 @@ returns-in_ok-follow-in-Join-clause-shown c =
     ∙ join_heard room c.own.ensures.well_formed by_nick lists c.in-Join.nick c.in-Join.channel
     c.in-Join.op
     (first_so _ true (sym (ap (λ e. list_all (has_user room) (needs_users e)) c.in-Join.is)
-            ∙ c.requires.possible.users_there))
+    ∙ c.requires.possible.users_there))
     (subst (λ e. AreSo lists (after room e) (index_after e by_nick)) c.in-Join.is
     c.in_ok-follow-in-Join.ensures)
     ∙ ap (hearers room by_nick) (sym c.in-Join.is)))

@@ -75,7 +75,7 @@ returns-in-Invite c =
     (one_heard c.args.room.now.room c.own.ensures.well_formed c.args.clients.now.by_nick
     c.in-Invite.nick
     (first_so _ true (second_so _ _ (sym (ap (λ e. list_all (has_user c.args.room.now.room)
-                (needs_users e)) c.in-Invite.is) ∙ c.requires.possible.users_there)))
+    (needs_users e)) c.in-Invite.is) ∙ c.requires.possible.users_there)))
     ∙ ap (hearers c.args.room.now.room c.args.clients.now.by_nick) (sym c.in-Invite.is)))
     c.tell_one.ensures
 
@@ -87,7 +87,7 @@ returns-in-ChangeUser c =
     (itself_heard c.args.room.now.room c.own.ensures.well_formed c.args.clients.now.by_nick
     c.in-ChangeUser.nick c.in-ChangeUser.change
     (first_so _ true (sym (ap (λ e. list_all (has_user c.args.room.now.room)
-                (needs_users e)) c.in-ChangeUser.is) ∙ c.requires.possible.users_there))
+    (needs_users e)) c.in-ChangeUser.is) ∙ c.requires.possible.users_there))
     ∙ ap (hearers c.args.room.now.room c.args.clients.now.by_nick) (sym c.in-ChangeUser.is)))
     c.tell_itself.ensures
 
