@@ -12,9 +12,11 @@ the others. By what it shows or writes into a log: each of these events; no word
 it can be asked: that its modes, names and topic of the channel are those of the server.
 catgirl comes by TLS, through stunnel and the key `proxies`; it and hexchat are told a `motd`.
 
-Nothing is installed: who is not there is passed over, and the package of Debian is named. Wanted
-are tmux; xvfb and dbus for graphical ones, xdotool for Pidgin; stunnel4 and openssl for catgirl.
-KEEP=FOLDER keeps the lines, what each client has shown and pictures (imagemagick) there.
+Nothing is installed: who is not there is passed over, and the packages of Debian are named. Wanted
+are tmux for those of a terminal, xvfb and dbus for graphical ones, xdotool where keys are pressed;
+stunnel4 and openssl for catgirl. Where root runs this, the clients are run by nobody.
+KEEP=FOLDER keeps the lines, what each client has shown and pictures (imagemagick) there;
+PROGRAMS=false has the daemon say what it says without the key. One client takes half a minute.
 
 Exit status: 0 where all that was judged held, 1 where something did not, 2 where none was there.
 """
@@ -62,7 +64,8 @@ SHOWN = {
     "a key": "sesame", "a ban": r"bad!\*@\*",
 }
 ERROR = re.compile(r":a\.net ([45]\d\d) |ERROR ")
-BAD_WORDS = re.compile(r"unknown command|not enough param|have not registered|invalid cap", re.I)
+BAD_WORDS = re.compile(r"unknown command|not enough param|have not registered|invalid cap"
+                       "|mode flags are missing", re.I)
 
 
 class Relay:
@@ -506,23 +509,24 @@ class Konversation(Window):
 
 
 class Kvirc(Window):
-    """It first asks five things in windows, which have what is usual; it is told lines of KVS. It
-    puts its log out later, so what it shows is not judged but by its state."""
+    """It first asks five things in windows, which have what is usual; it is told lines of KVS. Its
+    log is whole once it has ended."""
     package = command = "kvirc"
     wants = (*Window.wants, "xdotool")
-    invites, shown = 'raw "INVITE vicky #den"', {}
+    invites = 'raw "INVITE vicky #den"'
 
     def starts(self):
         self.opens("kvirc", "-f")
-        time.sleep(4)
+        waits(lambda: self.asks("xdotool", "search", "--name", "KVIrc"), 20)
         for key in 5 * ["alt+n"] + ["alt+f"]:
+            time.sleep(1)
             window = self.asks("xdotool", "search", "--name", "KVIrc").split()[-1:]
             self.asks("xdotool", "windowfocus", *window)
             self.asks("xdotool", "key", key)
-            time.sleep(0.5)
-        time.sleep(3)
+        time.sleep(4)
         self.does("option stringNickname1 dee")
-        self.does("option boolShowChannelsJoinOnIrc 0")
+        self.does("option boolAutoLogConsole 1")
+        self.does("log.start")
         self.does(f"server 127.0.0.1 {self.port}")
 
     def types(self, line):
@@ -544,7 +548,31 @@ class Kvirc(Window):
         return "", "", ""
 
     def shows(self):
-        return ""
+        for _ in range(5):
+            if waits(lambda: self.processes[-1].poll() is not None, 3):
+                break
+            self.does("quit -q")
+        # what can be clicked stands between two marks
+        return re.sub(r"\n!\w+\n(.*)\n", r"\1", self.logs("**/KVIrc/log/*.log"))
+
+
+class Srain(Window):
+    """What it shows is its log. Where it is invited, it goes to a talk with who invites."""
+    package, command, joins_itself = "srain", "srain", True
+    wants = (*Window.wants, "xdotool")
+
+    def starts(self):
+        self.opens("srain", f"irc://dee@127.0.0.1:{self.port}/#den")
+
+    def types(self, line):
+        line = f"/msg #den {line}" if line == REPLY else line
+        window = self.asks("xdotool", "search", "--onlyvisible", "--class", "srain").split()[-1:]
+        self.asks("xdotool", "windowfocus", *window)
+        self.asks("xdotool", "type", "--delay", "30", "--", line)
+        self.asks("xdotool", "key", "Return")
+
+    def shows(self):
+        return self.logs("data/srain/logs/**/*")
 
 
 STORED = """
@@ -584,7 +612,8 @@ class Quassel(Client):
 
 
 CLIENTS = {it.command: it for it in (
-    HexChat, Pidgin, Konversation, Kvirc, Quassel, Catgirl, Glirc, Finch, Epic, Irc, ScrollZ, Tiny,
+    HexChat, Pidgin, Konversation, Kvirc, Quassel, Srain, Catgirl, Glirc, Finch, Epic, Irc,
+    ScrollZ, Tiny,
 )}
 
 
@@ -706,20 +735,20 @@ def one(program, name):
                 people[who].answered(line)
             relay = Relay(port)
             client = kind(folder, relay.port)
-            try:
-                return judged(client, relay, people)
-            except (OSError, subprocess.SubprocessError, sqlite3.Error) as error:
-                return told("runs to its end", False, repr(error))
-            finally:
+            with contextlib.ExitStack() as ends:
+                ends.callback(relay.door.close)
+                ends.callback(client.ends)
                 if KEEP:
-                    keeps(name, client, relay)
-                client.ends()
-                relay.door.close()
+                    ends.callback(keeps, name, client, relay)
+                try:
+                    return judged(client, relay, people)
+                except (OSError, subprocess.SubprocessError, sqlite3.Error) as error:
+                    return told("runs to its end", False, repr(error))
 
 
 def package(word):
     """Which has a command that is wanted."""
-    return {"Xvfb": "xvfb", "gdbus": "libglib2.0-bin"}.get(word, word)
+    return {"Xvfb": "xvfb", "dbus-daemon": "dbus", "gdbus": "libglib2.0-bin"}.get(word, word)
 
 
 def version(kind):
@@ -730,10 +759,17 @@ def version(kind):
     return done.stdout
 
 
+def told_to_end(*_):
+    """What was started ends with this, and is not stopped in that."""
+    signal.signal(signal.SIGTERM, signal.SIG_IGN)
+    sys.exit(1)
+
+
 def main():
     if len(sys.argv) < 2 or not os.access(sys.argv[1], os.X_OK):
         sys.exit("usage: tests/desktop_clients.py PROGRAM [CLIENT ..]")
     program, results = os.path.abspath(sys.argv[1]), []
+    signal.signal(signal.SIGTERM, told_to_end)
     if unknown := [it for it in sys.argv[2:] if it not in CLIENTS]:
         sys.exit(f"no client of these: {', '.join(unknown)}; there are {', '.join(CLIENTS)}")
     for name in sys.argv[2:] or CLIENTS:
