@@ -7,6 +7,7 @@ use Rattle.std.specs.Option.{option_map_or}
 use Rattle.std.specs.Prelude.{unwrap_or}
 use Rattle.std.specs.Cmp.Lexicographic.{pointwise, bytes_decides}
 use Rattle.std.specs.FinMap.{get-empty}
+use Rattle.std.proofs.Math.Bool.{false≢true}
 use Rattle.irc_names.specs.Fold.{key, same}
 use Rattle.irc_names.specs.Tables.{fold_cmp, row}
 use Rattle.irc_names.specs.TableLaws.{same_fold, same_fold-refl, one_fold, row-alter}
@@ -18,7 +19,6 @@ use Rattle.irc_channels.specs.Channels.{has_member, new_channel}
 use Rattle.irc_room.specs.After.{alter_channel}
 use Rattle.irc_room.specs.Effects.{is_member}
 use Rattle.irc_room.specs.InTurn.{after_all}
-use Rattle.irc_room.specs.Lemmas.Rows.{not_true}
 use Rattle.irc_merge.specs.Deeds.{member_comes}
 use Rattle.irc_merge.specs.Bursts.{home_passes}
 use Rattle.irc_merge.specs.BurstRead.{is_new_member, new_members}
@@ -69,8 +69,8 @@ module _ (far : List ℕ → Bool) (channel : List ℕ) where
   two_folds one other two = by_test (same_fold (key other) (key one)) refl
     where
       by_test : (b : Bool) → same_fold (key other) (key one) ≡ b → b ≡ false
-      by_test true is = not_true (sym two
-          ∙ (bytes_decides (key one) (key other)).1 (sym (one_fold (key other) (key one) is)))
+      by_test true is = absurd (false≢true (sym two
+          ∙ (bytes_decides (key one) (key other)).1 (sym (one_fold (key other) (key one) is))))
       by_test false none = refl
 
   -- whether another becomes a member, once one has come

@@ -5,6 +5,7 @@ use Rattle.std.proofs.Common.{option_map, if◌then◌else◌}
 use Rattle.std.specs.List.{flat_map}
 use Rattle.std.specs.Option.{option_map_or}
 use Rattle.std.proofs.lemmas.Bool.{and_from}
+use Rattle.std.proofs.lemmas.Option.{same_Some}
 use Rattle.irc_line.specs.Messages.{IsPlain, Written, line_text, message_of}
 use Rattle.irc_names.specs.Fold.{key}
 use Rattle.irc_names.specs.Names.{IsNick, IsServer, is_nick, is_server}
@@ -15,7 +16,6 @@ use Rattle.irc_room.specs.effect.Effect.TheVariants.{Quit}
 use Rattle.irc_room.specs.Room.{Room}
 use Rattle.irc_room.specs.Seen.{Showing, seen}
 use Rattle.irc_room.specs.Sendable.{IsStoredNick}
-use Rattle.irc_room.specs.Lemmas.Rows.{same_some}
 use Rattle.irc_merge.specs.Deeds.{kills}
 use Rattle.irc_merge.specs.Quits.{collision_text}
 use Rattle.irc_relay.specs.Links.{Name, toward, AreLinked}
@@ -53,7 +53,7 @@ killed_it server nick room stored = by (row room.users (key nick)) stored
     by : (o : Option User) → option_map (λ (user : User). user.nick) o ≡ Some nick → option_map_or
         (λ (holder : User). kills server holder.nick ∷ []) o [] ≡ kills server nick ∷ []
     by None is = cc is
-    by (Some user) is = ap (λ n. kills server n ∷ []) (same_some user.nick nick is)
+    by (Some user) is = ap (λ n. kills server n ∷ []) (same_Some user.nick nick is)
 
 pub stored_named : (nick : List ℕ) (room : Room)
     → ((user : User) → row room.users (key nick) ≡ Some user → IsNick user.nick)
@@ -63,7 +63,7 @@ stored_named nick room rule stored = by (row room.users (key nick)) refl stored
     by : (o : Option User) → row room.users (key nick) ≡ o
         → option_map (λ (user : User). user.nick) o ≡ Some nick → IsNick nick
     by None at is = cc is
-    by (Some user) at is = subst IsNick (same_some user.nick nick is) (rule user at)
+    by (Some user) at is = subst IsNick (same_Some user.nick nick is) (rule user at)
 
 module _ (known : IsKnownOfLines) (server nick : List ℕ) (s : ItemSetting) (p t u : Name)
     (w : of_side.SideState) (view other : View) (line : List ℕ) (client : ℕ)

@@ -6,6 +6,8 @@ use Rattle.std.proofs.lemmas.Bool.{le-leb, and_from, or_right}
 use Rattle.std.specs.FinMap.{get, keys}
 use Rattle.std.specs.List.{list_any, AllByRecursion}
 use Rattle.std.specs.Option.{option_map_or}
+use Rattle.std.proofs.lemmas.Option.{same_Some}
+use Rattle.irc_names.specs.Lemmas.PlainFacts.{is_some-map}
 use Rattle.irc_line.specs.Messages.{IsPlain, Written, line_text, message_of}
 use Rattle.irc_names.specs.Limits.{max_words}
 use Rattle.irc_names.specs.Fold.{key}
@@ -20,7 +22,6 @@ use Rattle.irc_room.specs.Seen.{stored_nick}
 use Rattle.irc_room.specs.OtherInvitations.{AreAlike}
 use Rattle.irc_room.specs.Room.{Room}
 use Rattle.irc_room.specs.After.{titled_by}
-use Rattle.irc_room.specs.Lemmas.Rows.{is_some_map, same_some}
 use Rattle.irc_room.specs.Lemmas.AlikeLaw.{alike_have_alike, alike_stay_alike, alike_take_alike}
 use Rattle.irc_room.specs.Lemmas.RespelledRooms.{alike_are_respelled_alike}
 use Rattle.irc_merge.specs.Bursts.{home_passes}
@@ -139,7 +140,7 @@ module _ (known : IsKnownOfLines) (s : ItemSetting) (p t u : Name) (w : of_side.
 
     known_there : is_known other.routes name ≡ true
     known_there = or_right (is_itself other.routes name) (is_some (row_of other.routes name))
-        (sym (is_some_map (λ (r : ServerRow). r.link) (row_of other.routes name))
+        (sym (is_some-map (λ (r : ServerRow). r.link) (row_of other.routes name))
         ∙ ap is_some (beside.there_row s p t u w view other takes next apart writer reader name
         doable.can.known
         (far_is_another s t u w other next reader name doable.far)))
@@ -349,7 +350,7 @@ module _ (known : IsKnownOfLines) (s : ItemSetting) (p t u : Name) (w : of_side.
             by : (o : Option User) → option_map (λ (user : User). user.nick) o ≡ Some member.0
                 → option_map_or (λ (user : User). user.nick) o member.0 ≡ member.0
             by None is = refl
-            by (Some user) is = same_some user.nick member.0 is
+            by (Some user) is = same_Some user.nick member.0 is
 
     -- all of them are new there, whichever spelling it has of the channel
     new_there : AllByRecursion (λ (member : List ℕ × Flags). home_passes far other.room.users

@@ -8,6 +8,7 @@ use Rattle.std.specs.List.{list_all, AllByRecursion}
 use Rattle.std.specs.Option.{option_map_or}
 use Rattle.std.specs.Cmp.Lexicographic.{pointwise, bytes_decides}
 use Rattle.std.specs.FinMap.{entries, entries_sorted, find, get-entries}
+use Rattle.std.proofs.lemmas.Option.{none-some, same_Some}
 use Rattle.irc_names.specs.Lemmas.PlainFacts.{is_true}
 use Rattle.irc_names.specs.Spellings.{exactly_same}
 use Rattle.irc_names.specs.Tables.{Table, fold_cmp, row}
@@ -16,7 +17,6 @@ use Rattle.irc_modes.specs.declared.modes.Modes.{Modes}
 use Rattle.irc_modes.specs.declared.modes.Privacy.{Privacy}
 use Rattle.irc_modes.specs.declared.modes.Privacy.TheVariants.{Public, Private, Secret}
 use Rattle.irc_channels.specs.declared.channel.Channel.{Channel}
-use Rattle.irc_room.specs.Lemmas.Rows.{same_some, not_none}
 use Rattle.irc_merge.specs.Merge.{AreAlike, Agree, room_without}
 use Rattle.irc_merge.specs.Agreeing.{same_flag, same_privacy, same_key, same_limit, same_modes}
 use Rattle.irc_merge.specs.Agreeing.{are_alike, AgreeTells}
@@ -45,7 +45,7 @@ key_tells None (Some other) = (λ e. cc, λ p. cc)
 key_tells (Some one) None = (λ e. cc, λ p. cc)
 key_tells (Some one) (Some other) = (
   λ e. ap Some ((bytes_decides one other).0 e),
-  λ p. (bytes_decides one other).1 (same_some one other p),
+  λ p. (bytes_decides one other).1 (same_Some one other p),
 )
 
 limit_tells : (one other : Option ℕ) → Decides (same_limit one other) (one ≡ other)
@@ -54,7 +54,7 @@ limit_tells None (Some other) = (λ e. cc, λ p. cc)
 limit_tells (Some one) None = (λ e. cc, λ p. cc)
 limit_tells (Some one) (Some other) = (
   λ e. ap Some ((Decides-eqb one other).0 e),
-  λ p. (Decides-eqb one other).1 (same_some one other p),
+  λ p. (Decides-eqb one other).1 (same_Some one other p),
 )
 
 bans_tell : (one other : List (List ℕ)) → Decides (pointwise exactly_same one other) (one ≡ other)
@@ -131,7 +131,7 @@ module _ (other : Table Channel) where
   found_tested : (es : List (List ℕ × Channel))
       → list_all (λ (e : List ℕ × Channel). tested e.0 e.1) es ≡ true → (q : List ℕ)
       (channel : Channel) → find fold_cmp q es ≡ Some channel → tested q channel ≡ true
-  found_tested [] all q channel is = not_none channel is
+  found_tested [] all q channel is = absurd (none-some channel is)
   found_tested (e ∷ es) all q channel is =
       let parts = and_parts _ _ all in
       by_fold (same_fold q e.0) refl parts.0 (λ later. found_tested es parts.1 q channel later) is
@@ -140,7 +140,7 @@ module _ (other : Table Channel) where
           → (find fold_cmp q es ≡ Some channel → tested q channel ≡ true)
           → cond b (Some e.1) (find fold_cmp q es) ≡ Some channel → tested q channel ≡ true
       by_fold true one here later is =
-          (λ i. tested (one_fold q e.0 one i) (sym (same_some e.1 channel is) i)) ∙ here
+          (λ i. tested (one_fold q e.0 one i) (sym (same_Some e.1 channel is) i)) ∙ here
       by_fold false two here later is = later is
 
   all_tested : (es : List (List ℕ × Channel)) → AllByRecursion (λ e. tested e.0 e.1 ≡ true) es

@@ -10,6 +10,7 @@ use Rattle.std.proofs.lemmas.List.Folds.{list_all-append, list_any-append}
 use Rattle.std.proofs.lemmas.List.Sums.{fold-append}
 use Rattle.std.specs.List.{list_all, list_any, cons_option, AllByRecursion}
 use Rattle.std.specs.FinMap.{empty, entries, keys, retain_keys, find, get-empty, get-entries}
+use Rattle.std.proofs.Math.Bool.{false≢true}
 use Rattle.irc_names.specs.Lemmas.PlainFacts.{none_if_not_some, same_either_way}
 use Rattle.irc_names.specs.Fold.{key}
 use Rattle.irc_names.specs.Greater.{bytes_cmp, greater}
@@ -31,7 +32,7 @@ use Rattle.irc_modes.specs.Raised.{raising}
 use Rattle.irc_modes.specs.RaisedLaws.{all_set, line_raised, raised_is_joined}
 use Rattle.irc_channels.specs.declared.channel.Channel.{Channel}
 use Rattle.irc_channels.specs.Channels.{new_channel, while_members}
-use Rattle.irc_room.specs.Lemmas.Rows.{not_true, some_key, some_row, no_row, alter_same}
+use Rattle.irc_room.specs.Lemmas.Rows.{some_key, some_row, no_row, alter_same}
 use Rattle.irc_merge.specs.Bursts.{in_lines, members_a_line, bans_a_line, stored_member}
 use Rattle.irc_merge.specs.Bursts.{stored_members}
 use Rattle.irc_merge.specs.Merge.{either, joined_channel}
@@ -55,7 +56,7 @@ no_rows {X} table none q = by_row (row table q) refl
   where
     by_row : (o : Option X) → row table q ≡ o → o ≡ None
     by_row None at = refl
-    by_row (Some x) at = not_true (sym (sym none ∙ some_key table q (ap is_some at)))
+    by_row (Some x) at = absurd (false≢true (sym (sym none ∙ some_key table q (ap is_some at))))
 
 pub either_none : {X : Type 0} (x : Option X) → either x None ≡ x
 either_none None = refl
@@ -100,7 +101,7 @@ pub stands : (users : Table User) (channel : Channel) → IsTellable users chann
 stands users channel told q there = by_row (row users q) refl (told.members q there)
   where
     by_row : (o : Option User) → row users q ≡ o → is_some o ≡ true → StandsThere users q
-    by_row None at some = not_true some
+    by_row None at some = absurd (false≢true some)
     by_row (Some user) at some = record { holder = user; at = at; named = told.named q user at }
 
 -- members, by their folds
@@ -648,7 +649,7 @@ module _ (passes : List ℕ → Bool) where
     where
       out : (q : List ℕ) → is_some (row channel.members q) ≡ true → (b : Bool) → passes q ≡ b
           → b ≡ false
-      out q there true pass = not_true (sym (ap is_some (near.members q pass)) ∙ there)
+      out q there true pass = absurd (false≢true (sym (ap is_some (near.members q pass)) ∙ there))
       out q there false fails = refl
 
   pub channel_told : (users : Table User) (channel : Channel) (x : Option Channel)

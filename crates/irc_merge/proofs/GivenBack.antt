@@ -7,6 +7,7 @@ use Rattle.std.specs.List.{list_any}
 use Rattle.std.specs.Option.{option_and_then, option_map_or}
 use Rattle.std.specs.FinMap.{entries, keys, retain_keys}
 use Rattle.std.proofs.lemmas.Bool.{not-false}
+use Rattle.std.proofs.Math.Bool.{false≢true}
 use Rattle.irc_names.specs.Lemmas.PlainFacts.{same_either_way}
 use Rattle.irc_names.specs.Fold.{key}
 use Rattle.irc_names.specs.GreaterLaws.{greater_with_itself}
@@ -20,7 +21,7 @@ use Rattle.irc_users.specs.UserTable.{is_home}
 use Rattle.irc_channels.specs.declared.channel.Channel.{Channel}
 use Rattle.irc_channels.specs.declared.flags.Flags.{Flags}
 use Rattle.irc_room.specs.Room.{Room, IsWellFormed, IsSoundRow}
-use Rattle.irc_room.specs.Lemmas.Rows.{not_true, some_key}
+use Rattle.irc_room.specs.Lemmas.Rows.{some_key}
 use Rattle.irc_merge.specs.Quits.{users_at}
 use Rattle.irc_merge.specs.Merge.{either, one_channel, joined_channel, union}
 use Rattle.irc_merge.specs.Split.{lost_users, split}
@@ -81,7 +82,7 @@ one_side lost others room sides q there = by_row (row room.users q) refl there
   where
     by_row : (o : Option User) → row room.users q ≡ o → is_some o ≡ true → option_map_or
         (has_home_in others) o false ≡ not (option_map_or (has_home_in lost) o false)
-    by_row None at there = not_true there
+    by_row None at there = absurd (false≢true there)
     by_row (Some user) at there = sides.apart q user at
 
 -- ---- nobody is on both sides
@@ -130,9 +131,9 @@ none_kept {X} table p none q there = by_test (p q) refl
   where
     by_test : (b : Bool) → p q ≡ b → b ≡ false
     by_test true passes =
-        not_true (sym (some_key (retain_keys table p) q
+        absurd (false≢true (sym (some_key (retain_keys table p) q
         (ap is_some (row-kept table p q ∙ ap (λ b. cond b (row table q) None) passes) ∙ there))
-        ∙ none)
+        ∙ none))
     by_test false fails = refl
 
 whole_kept : {X : Type 0} (table : Table X) (p : List ℕ → Bool)
@@ -190,7 +191,7 @@ module _ {X : Type 0} (table : Table X) (gone other : List ℕ → Bool)
   pub some_side : {A : Type 0} → is_nil (keys table) ≡ false → is_nil (keys near) ≡ true
       → is_nil (keys far) ≡ true → A
   some_side some none none_too =
-      not_true (sym (sym none_too ∙ ap (λ t. is_nil (keys t)) (all_far none) ∙ some))
+      absurd (false≢true (sym (sym none_too ∙ ap (λ t. is_nil (keys t)) (all_far none) ∙ some)))
 
 -- ---- one channel
 

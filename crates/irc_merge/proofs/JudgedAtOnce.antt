@@ -7,6 +7,7 @@ use Rattle.std.specs.Prelude.{unwrap_or}
 use Rattle.std.specs.Cmp.Lexicographic.{bytes_decides}
 use Rattle.std.specs.FinMap.{get-empty}
 use Rattle.std.proofs.lemmas.Bool.{or_parts}
+use Rattle.std.proofs.Math.Bool.{false≢true}
 use Rattle.irc_names.specs.Fold.{key, same}
 use Rattle.irc_names.specs.Tables.{fold_cmp, row}
 use Rattle.irc_names.specs.TableLaws.{same_fold, one_fold, row-alter, row-alter_same}
@@ -17,7 +18,6 @@ use Rattle.irc_room.specs.Room.{Room}
 use Rattle.irc_room.specs.Effects.{is_member}
 use Rattle.irc_room.specs.After.{alter_channel}
 use Rattle.irc_room.specs.InTurn.{after_all}
-use Rattle.irc_room.specs.Lemmas.Rows.{not_true}
 use Rattle.irc_merge.specs.Deeds.{member_comes}
 use Rattle.irc_merge.specs.Bursts.{home_passes}
 use Rattle.irc_merge.specs.BurstRead.{is_new_member, new_members}
@@ -31,8 +31,8 @@ two_folds : (one other : List ℕ) → same one other ≡ false → same_fold (k
 two_folds one other two = by_test (same_fold (key other) (key one)) refl
   where
     by_test : (b : Bool) → same_fold (key other) (key one) ≡ b → b ≡ false
-    by_test true is = not_true (sym two
-        ∙ (bytes_decides (key one) (key other)).1 (sym (one_fold (key other) (key one) is)))
+    by_test true is = absurd (false≢true (sym two
+        ∙ (bytes_decides (key one) (key other)).1 (sym (one_fold (key other) (key one) is))))
     by_test false none = refl
 
 -- whether one is a member does not change when another comes

@@ -5,12 +5,13 @@ use Rattle.std.specs.List.{flat_map}
 use Rattle.std.specs.Option.{option_map_or}
 use Rattle.std.specs.FinMap.Entries.{find}
 use Rattle.std.proofs.Math.Bool.{or-false}
+use Rattle.std.proofs.lemmas.Iterator.Adapters.{option_map_id}
 use Rattle.irc_names.specs.Tables.{fold_cmp, row}
 use Rattle.irc_users.specs.declared.user.User.{User}
 use Rattle.irc_users.specs.UserTable.{is_home}
 use Rattle.irc_channels.specs.Channels.{is_invited}
 use Rattle.irc_room.specs.InTurn.{after_all}
-use Rattle.irc_room.specs.Lemmas.Listed.{map_itself, table_of, row_listed}
+use Rattle.irc_room.specs.Lemmas.Listed.{table_of, row_listed}
 use Rattle.irc_room.specs.Lemmas.ListedRooms.{ListedChannel, ListedRoom, channel_of, room_of}
 use Rattle.irc_room.specs.Lemmas.ListedRooms.{list_after, all_listed}
 use Rattle.irc_merge.specs.Quits.{quits_of}
@@ -48,7 +49,7 @@ invited_in nick x =
 invited_row : (nick : List ℕ) (c : ListedChannel)
     → row (table_of (λ (u : Unit {0}). u) c.invited) nick ≡ find fold_cmp nick c.invited
 invited_row nick c =
-    row_listed (λ u. u) c.invited nick ∙ map_itself (find fold_cmp nick c.invited)
+    row_listed (λ u. u) c.invited nick ∙ option_map_id (find fold_cmp nick c.invited)
 
 either_there : {X : Type 0} (x y : Option X) → is_some (either x y) ≡ (is_some x || is_some y)
 either_there None y = refl

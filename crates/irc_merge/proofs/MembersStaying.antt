@@ -3,6 +3,7 @@ use Rattle.std.proofs.Common.{◌≡◌, ℕ, Bool, true, false, cond, not, Opti
 use Rattle.std.proofs.Common.{sym, ◌∙◌, ap, is_some}
 use Rattle.std.specs.Option.{option_and_then, option_map_or}
 use Rattle.std.specs.FinMap.{keys, retain_keys}
+use Rattle.std.proofs.Math.Bool.{false≢true}
 use Rattle.irc_names.specs.Spellings.{exactly_same}
 use Rattle.irc_names.specs.Tables.{row}
 use Rattle.irc_users.specs.declared.user.User.{User}
@@ -11,7 +12,7 @@ use Rattle.irc_channels.specs.declared.flags.Flags.{Flags}
 use Rattle.irc_channels.specs.declared.channel.Channel.{Channel}
 use Rattle.irc_modes.specs.Modes.{is_nil}
 use Rattle.irc_room.specs.Room.{Room, IsWellFormed}
-use Rattle.irc_room.specs.Lemmas.Rows.{not_true, some_key}
+use Rattle.irc_room.specs.Lemmas.Rows.{some_key}
 use Rattle.irc_merge.specs.Quits.{users_at}
 use Rattle.irc_merge.specs.Split.{lost_home}
 use Rattle.irc_merge.specs.StayingMembers.{MembersStay}
@@ -32,7 +33,7 @@ module _ (text home other : List ℕ) (room : Room) (nick : List ℕ) (user : Us
       ∙ by (is_home home user) refl
     where
       by : (b : Bool) → is_home home user ≡ b → b ≡ false
-      by true here = not_true (sym (two_homes home other two user here) ∙ there)
+      by true here = absurd (false≢true (sym (two_homes home other two user here) ∙ there))
       by false away = refl
 
   flags_kept : (before : Channel)
@@ -45,8 +46,8 @@ module _ (text home other : List ℕ) (room : Room) (nick : List ℕ) (user : Us
       ≡ true → (o : Option Flags) → row before.members nick ≡ o → None ≡ o
   no_member before none None is = refl
   no_member before none (Some flags) is =
-      not_true (sym (some_key (retain_keys before.members (λ q. not (gone q))) nick
-      (ap is_some (flags_kept before ∙ is))) ∙ none)
+      absurd (false≢true (sym (some_key (retain_keys before.members (λ q. not (gone q))) nick
+      (ap is_some (flags_kept before ∙ is))) ∙ none))
 
   in_channel : (o : Option Channel) → option_and_then (λ (c : Channel). row c.members nick)
       (option_and_then (thinned gone) o) ≡ option_and_then (λ (c : Channel). row c.members nick) o

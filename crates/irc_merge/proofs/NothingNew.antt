@@ -4,6 +4,8 @@ use Rattle.std.proofs.Common.{◌≡◌, ℕ, Bool, true, false, cond, not, Opti
 use Rattle.std.proofs.Common.{sym, ◌∙◌, ap, ◌⊎◌, inl, inr, is_some}
 use Rattle.std.specs.Option.{option_and_then, option_map_or}
 use Rattle.std.specs.FinMap.{keys, retain_keys}
+use Rattle.std.proofs.Math.Bool.{false≢true}
+use Rattle.std.proofs.lemmas.Option.{none-some, same_Some}
 use Rattle.irc_names.specs.Greater.{bytes_cmp, greater}
 use Rattle.irc_names.specs.Tables.{row}
 use Rattle.irc_users.specs.declared.user.User.{User}
@@ -15,7 +17,6 @@ use Rattle.irc_modes.specs.Modes.{is_nil}
 use Rattle.irc_room.specs.Room.{Room, IsWellFormed}
 use Rattle.irc_room.specs.InTurn.{after_all}
 use Rattle.irc_room.specs.Readers.{flags_at, is_invited_at}
-use Rattle.irc_room.specs.Lemmas.Rows.{not_none, not_true, same_some}
 use Rattle.irc_merge.specs.Quits.{quits_of, collision_text}
 use Rattle.irc_merge.specs.Merge.{AreAlike, clash, room_without, either, one_channel}
 use Rattle.irc_merge.specs.Merge.{joined_channel, merge}
@@ -27,14 +28,14 @@ use Rattle.irc_merge.specs.Lemmas.Joining.{row-either, row-joined}
 use Rattle.irc_merge.specs.Lemmas.TableWords.{row-kept}
 
 kept_user : (b : Bool) (o : Option User) (user : User) → cond b None o ≡ Some user → o ≡ Some user
-kept_user true o user is = not_none user is
+kept_user true o user is = absurd (none-some user is)
 kept_user false o user is = is
 
 -- a channel that is left has its name, its modes and its topic
 kept_channel : (gone : List ℕ → Bool) (o : Option Channel) (channel : Channel)
     → option_and_then (thinned gone) o ≡ Some channel
     → (before : Channel) × ((o ≡ Some before) × AreAlike channel before)
-kept_channel gone None channel is = not_none channel is
+kept_channel gone None channel is = absurd (none-some channel is)
 kept_channel gone (Some before) channel is =
     (before, (refl, by_test (is_nil (keys (retain_keys before.members (λ q. not (gone q))))) is))
   where
@@ -44,9 +45,9 @@ kept_channel gone (Some before) channel is =
       invited = retain_keys before.invited (λ q. not (gone q));
     }))
         ≡ Some channel → AreAlike channel before
-    by_test true is = not_none channel is
+    by_test true is = absurd (none-some channel is)
     by_test false is =
-        let same = sym (same_some _ channel is) in
+        let same = sym (same_Some _ channel is) in
         record {
           name = ap (λ (c : Channel). c.name) same;
           modes = ap
@@ -60,12 +61,12 @@ flags_in nick channel = row channel.members nick
 
 kept_some : {X : Type 0} (b : Bool) (o : Option X) (x : X) → cond b o None ≡ Some x → o ≡ Some x
 kept_some true o x is = is
-kept_some false o x is = not_none x is
+kept_some false o x is = absurd (none-some x is)
 
 kept_flags : (gone : List ℕ → Bool) (nick : List ℕ) (flags : Flags) (o : Option Channel)
     → option_and_then (flags_in nick) (option_and_then (thinned gone) o) ≡ Some flags
     → option_and_then (flags_in nick) o ≡ Some flags
-kept_flags gone nick flags None is = not_none flags is
+kept_flags gone nick flags None is = absurd (none-some flags is)
 kept_flags gone nick flags (Some before) is =
     by_test (is_nil (keys (retain_keys before.members (λ q. not (gone q))))) is
   where
@@ -77,14 +78,14 @@ kept_flags gone nick flags (Some before) is =
           invited = retain_keys before.invited (λ q. not (gone q));
         })))
         ≡ Some flags → row before.members nick ≡ Some flags
-    by_test true is = not_none flags is
+    by_test true is = absurd (none-some flags is)
     by_test false is = kept_some (not (gone nick)) (row before.members nick) flags
         (sym (row-kept before.members (λ q. not (gone q)) nick) ∙ is)
 
 kept_there : {X : Type 0} (b : Bool) (o : Option X) → is_some (cond b o None) ≡ true
     → is_some o ≡ true
 kept_there true o there = there
-kept_there false o there = not_true there
+kept_there false o there = absurd (false≢true there)
 
 kept_invited : (gone : List ℕ → Bool) (nick : List ℕ) (o : Option Channel)
     → option_map_or (is_invited nick) (option_and_then (thinned gone) o) false ≡ true
@@ -101,7 +102,7 @@ kept_invited gone nick (Some before) is =
           invited = retain_keys before.invited (λ q. not (gone q));
         }))) false
         ≡ true → is_some (row before.invited nick) ≡ true
-    by_test true is = not_true is
+    by_test true is = absurd (false≢true is)
     by_test false is = kept_there (not (gone nick)) (row before.invited nick)
         (sym (ap is_some (row-kept before.invited (λ q. not (gone q)) nick)) ∙ is)
 
@@ -178,7 +179,7 @@ merge_has_nothing_new one other well_one well_other = record {
     channel_of fold channel (Some c) at (Some d) that is =
         let ours = first.channels fold c at in
         let theirs = second.channels fold d that in
-        let same = sym (same_some (one_channel c d) channel is) in
+        let same = sym (same_Some (one_channel c d) channel is) in
         of_both ours.0 theirs.0 ours.1.0 theirs.1.0 (record {
           name = ap (λ (c : Channel). c.name) same
               ∙ (λ i. greater bytes_cmp ((ours.1.1).name i) ((theirs.1.1).name i));
@@ -213,7 +214,7 @@ merge_has_nothing_new one other well_one well_other = record {
         → (p : Option Channel) → row (room_without other one).channels fold ≡ p
         → option_and_then (flags_in nick) (joined_channel o p) ≡ Some flags
         → (flags_at one nick fold ≡ Some flags) ⊎ (flags_at other nick fold ≡ Some flags)
-    member_of nick fold flags None at None that is = not_none flags is
+    member_of nick fold flags None at None that is = absurd (none-some flags is)
     member_of nick fold flags None at (Some d) that is = of_second nick fold flags d that is
     member_of nick fold flags (Some c) at None that is = of_first nick fold flags c at is
     member_of nick fold flags (Some c) at (Some d) that is =
@@ -245,7 +246,7 @@ merge_has_nothing_new one other well_one well_other = record {
         → (p : Option Channel) → row (room_without other one).channels fold ≡ p
         → option_map_or (is_invited nick) (joined_channel o p) false ≡ true
         → (is_invited_at one nick fold ≡ true) ⊎ (is_invited_at other nick fold ≡ true)
-    invited_of nick fold None at None that is = not_true is
+    invited_of nick fold None at None that is = absurd (false≢true is)
     invited_of nick fold None at (Some d) that is = invited_second nick fold d that is
     invited_of nick fold (Some c) at None that is = invited_first nick fold c at is
     invited_of nick fold (Some c) at (Some d) that is =

@@ -7,6 +7,8 @@ use Rattle.std.specs.List.{flat_map, list_any}
 use Rattle.std.specs.Option.{option_and_then, option_map_or}
 use Rattle.std.specs.Cmp.Lexicographic.{bytes_decides}
 use Rattle.std.specs.FinMap.{empty, keys, values, retain_keys, get-empty}
+use Rattle.std.proofs.Math.Bool.{false≢true}
+use Rattle.std.proofs.lemmas.Option.{none-some, same_Some}
 use Rattle.irc_names.specs.Fold.{key, same}
 use Rattle.irc_names.specs.Tables.{Table, fold_cmp, row, alter, each}
 use Rattle.irc_names.specs.TableLaws.{same_table, row-each}
@@ -19,7 +21,7 @@ use Rattle.irc_channels.specs.Channels.{has_member, without_user}
 use Rattle.irc_room.specs.effect.Effect.TheVariants.{Quit}
 use Rattle.irc_room.specs.Room.{Room, IsWellFormed}
 use Rattle.irc_room.specs.After.{after}
-use Rattle.irc_room.specs.Lemmas.Rows.{not_none, not_true, same_some, alter_same}
+use Rattle.irc_room.specs.Lemmas.Rows.{alter_same}
 use Rattle.irc_room.specs.Seen.{full_sender, line_from}
 use Rattle.irc_room.specs.Viewers.{shows_to}
 use Rattle.irc_merge.specs.ShownAlong.{shown_along}
@@ -260,8 +262,9 @@ elsewhere_of : (home : List ℕ) (far : List ℕ → Bool) (room other : Room) �
 elsewhere_of home far room other apart near q user at = by_test (is_home home user) refl
   where
     by_test : (b : Bool) → is_home home user ≡ b → b ≡ false
-    by_test true here = not_true (sym near ∙ ap far (sym ((bytes_decides user.home home).0 here))
-        ∙ apart.behind q user at)
+    by_test true here =
+        absurd (false≢true (sym near ∙ ap far (sym ((bytes_decides user.home home).0 here))
+        ∙ apart.behind q user at))
     by_test false none = refl
 
 home_apart : (home : List ℕ) (far : List ℕ → Bool) (room other : Room) → AreApart far room other
@@ -280,9 +283,9 @@ home_told home room told = record {
     by_row : (fold : List ℕ) (channel : Channel) (o : Option Channel) → row room.channels fold ≡ o
         → option_map (inviting_only (is_at home room.users)) o ≡ Some channel
         → AreWithinLimits channel.modes
-    by_row fold channel None at is = not_none channel is
+    by_row fold channel None at is = absurd (none-some channel is)
     by_row fold channel (Some before) at is =
-        subst (λ (c : Channel). AreWithinLimits c.modes) (same_some
+        subst (λ (c : Channel). AreWithinLimits c.modes) (same_Some
         (inviting_only (is_at home room.users) before) channel is) (told.modes fold before at)
 
 pub server_reads_merge : ServerReadsMerge

@@ -7,6 +7,7 @@ use Rattle.std.specs.Option.{option_map_or, option_and_then}
 use Rattle.std.specs.FinMap.{empty, entries, entries_sorted, values, retain_keys, find, is_sorted}
 use Rattle.std.specs.FinMap.{get-empty, get-entries}
 use Rattle.std.specs.FinMap.Entries.{below_all}
+use Rattle.std.proofs.Math.Bool.{false≢true}
 use Rattle.irc_names.specs.Lemmas.PlainFacts.{is_true, same_either_way}
 use Rattle.irc_names.specs.Fold.{key}
 use Rattle.irc_names.specs.Tables.{Table, fold_cmp, row, both}
@@ -17,7 +18,6 @@ use Rattle.irc_channels.specs.declared.channel.Channel.{Channel}
 use Rattle.irc_modes.specs.ModesSet.{AreWithinLimits}
 use Rattle.irc_room.specs.Room.{Room, IsWellFormed, IsSoundRow}
 use Rattle.irc_room.specs.After.{alter_channel}
-use Rattle.irc_room.specs.Lemmas.Rows.{not_true}
 use Rattle.irc_merge.specs.Deeds.{Deed}
 use Rattle.irc_merge.specs.Bursts.{burst, user_deeds, channel_deeds, home_passes}
 use Rattle.irc_merge.specs.Merge.{clash, room_without, either, joined_channel, merge, uninvited}
@@ -75,7 +75,7 @@ module _ (far : List ℕ → Bool) (room other : Room) (well : IsWellFormed room
           → option_map_or (λ (user : User). far user.home) (told_user o p) false ≡ true
           → cond (is_some o && is_some p) None o ≡ None
       by_rows None at p pass = refl
-      by_rows (Some holder) at None pass = not_true (sym (apart.near q holder at) ∙ pass)
+      by_rows (Some holder) at None pass = absurd (false≢true (sym (apart.near q holder at) ∙ pass))
       by_rows (Some holder) at (Some user) pass = refl
 
   -- and of the other side's users those pass who are left
@@ -85,7 +85,7 @@ module _ (far : List ℕ → Bool) (room other : Room) (well : IsWellFormed room
     where
       by_rows : (o p : Option User) → row other.users q ≡ p → is_some p ≡ true → option_map_or
           (λ (user : User). far user.home) (told_user o p) false ≡ not (is_some p && is_some o)
-      by_rows o None at there = not_true there
+      by_rows o None at there = absurd (false≢true there)
       by_rows None (Some user) at there = apart.behind q user at
       by_rows (Some holder) (Some user) at there = refl
 
@@ -110,7 +110,7 @@ module _ (far : List ℕ → Bool) (room other : Room) (well : IsWellFormed room
     where
       by_row : (o : Option X) → row small q ≡ o → o ≡ None
       by_row None at = refl
-      by_row (Some x) at = not_true (sym (ap is_some none) ∙ known (ap is_some at))
+      by_row (Some x) at = absurd (false≢true (sym (ap is_some none) ∙ known (ap is_some at)))
 
   -- what is left of a channel of this side has modes that can be told
   left_told : CanBeTold room → (fold : List ℕ) (channel : Channel)

@@ -9,6 +9,7 @@ use Rattle.std.specs.List.{flat_map, AllByRecursion}
 use Rattle.std.specs.Option.{option_map_or}
 use Rattle.std.specs.Ordering.{is_lt, ordering_reverse}
 use Rattle.std.specs.FinMap.{entries, entries_sorted, get-entries}
+use Rattle.std.proofs.lemmas.Option.{same_Some}
 use Rattle.irc_names.specs.Lemmas.PlainFacts.{is_true}
 use Rattle.irc_names.specs.Fold.{key}
 use Rattle.irc_names.specs.Greater.{bytes_cmp, greater}
@@ -23,7 +24,6 @@ use Rattle.irc_modes.specs.RaisedLaws.{nothing_raised}
 use Rattle.irc_channels.specs.declared.channel.Channel.{Channel}
 use Rattle.irc_channels.specs.Channels.{has_member}
 use Rattle.irc_room.specs.Room.{Room, IsWellFormed}
-use Rattle.irc_room.specs.Lemmas.Rows.{same_some}
 use Rattle.irc_merge.specs.ShownAlong.{shown_along}
 use Rattle.irc_merge.specs.Quits.{quits_of, collision_text}
 use Rattle.irc_merge.specs.Merge.{AreAlike, clash, room_without}
@@ -212,7 +212,7 @@ sides_agree near_text far_text lost others room well = record {
       let ours = side_channel near_text lost room (split far_text others room) well fold c here in
       let theirs =
       side_channel far_text others room (split near_text lost room) well fold d there in
-      let one = same_some ours.0 theirs.0 (sym ours.1.0 ∙ theirs.1.0) in
+      let one = same_Some ours.0 theirs.0 (sym ours.1.0 ∙ theirs.1.0) in
       record {
         name = (ours.1.1).name ∙ ap (λ (x : Channel). x.name) one ∙ sym (theirs.1.1).name;
         modes = (ours.1.1).modes ∙ ap (λ (x : Channel). x.modes) one ∙ sym (theirs.1.1).modes;

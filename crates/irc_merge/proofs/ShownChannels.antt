@@ -9,6 +9,7 @@ use Rattle.std.specs.List.{list_all, cons_option}
 use Rattle.std.specs.Cmp.Lexicographic.{pointwise, bytes_decides}
 use Rattle.std.specs.Option.{option_and_then, option_map_or}
 use Rattle.std.specs.FinMap.{get-empty}
+use Rattle.std.proofs.Math.Bool.{false≢true}
 use Rattle.irc_line.specs.Messages.{named, text}
 use Rattle.irc_names.specs.Fold.{key, same}
 use Rattle.irc_names.specs.Tables.{fold_cmp, row}
@@ -29,7 +30,6 @@ use Rattle.irc_room.specs.Effects.{is_member}
 use Rattle.irc_room.specs.After.{after, alter_channel}
 use Rattle.irc_room.specs.Seen.{full_sender, line_from, names_member, stored_nick, written_words}
 use Rattle.irc_room.specs.Seen.{shown_line}
-use Rattle.irc_room.specs.Lemmas.Rows.{not_true}
 use Rattle.irc_room.specs.Lemmas.ModesKept.{same_rows}
 use Rattle.irc_room.specs.Viewers.{shows_to, line_for}
 use Rattle.irc_merge.specs.ShownAlong.{shown_along}
@@ -362,8 +362,8 @@ module _ (viewer name : List ℕ) where
   apart nick fold two = by_test (pointwise nat_eq (key nick) fold) refl
     where
       by_test : (b : Bool) → pointwise nat_eq (key nick) fold ≡ b → b ≡ false
-      by_test true one = not_true (sym two ∙ ap (λ f. same_fold f (key nick))
-          (sym ((bytes_decides (key nick) fold).0 one)) ∙ same_fold-refl (key nick))
+      by_test true one = absurd (false≢true (sym two ∙ ap (λ f. same_fold f (key nick))
+          (sym ((bytes_decides (key nick) fold).0 one)) ∙ same_fold-refl (key nick)))
       by_test false other = refl
 
   join_unseen : (nick : List ℕ) (room : Room) → IsBlind room → same_fold (key viewer) (key nick)

@@ -8,6 +8,7 @@ use Rattle.std.specs.List.{flat_map, cons_option, AllByRecursion}
 use Rattle.std.specs.Option.{option_map_or}
 use Rattle.std.specs.FinMap.{find, is_sorted}
 use Rattle.std.specs.FinMap.Entries.{below_all}
+use Rattle.std.proofs.Math.Bool.{false≢true}
 use Rattle.irc_names.specs.Fold.{key}
 use Rattle.irc_names.specs.GreaterLaws.{greater_with_itself}
 use Rattle.irc_names.specs.Tables.{Table, fold_cmp, row}
@@ -20,7 +21,6 @@ use Rattle.irc_room.specs.Room.{Room}
 use Rattle.irc_room.specs.Effects.{is_member}
 use Rattle.irc_room.specs.After.{alter_channel, titled_by}
 use Rattle.irc_room.specs.InTurn.{after_all}
-use Rattle.irc_room.specs.Lemmas.Rows.{not_true}
 use Rattle.irc_room.specs.Lemmas.RespelledRooms.{respelled_once}
 use Rattle.irc_merge.specs.ShownAlong.{shown_along}
 use Rattle.irc_merge.specs.Deeds.{brings, member_comes, shown_by, shown_by_all}
@@ -199,7 +199,7 @@ other_fold : (passes : List ℕ → Bool) (one other : List ℕ) → passes one 
 other_fold passes one other out pass = by_fold (same_fold one other) refl
   where
     by_fold : (b : Bool) → same_fold one other ≡ b → b ≡ false
-    by_fold true same = not_true (sym out ∙ ap passes (one_fold one other same) ∙ pass)
+    by_fold true same = absurd (false≢true (sym out ∙ ap passes (one_fold one other same) ∙ pass))
     by_fold false two = refl
 
 pub joins_unseen : (viewer name : List ℕ) (far : List ℕ → Bool) (members : List (List ℕ × Flags))

@@ -7,6 +7,7 @@ use Rattle.std.specs.List.{list_any, flat_map, cons_option, AllByRecursion}
 use Rattle.std.specs.Option.{option_map_or}
 use Rattle.std.specs.FinMap.{entries, entries_sorted, values, keys, retain_keys, find, is_sorted}
 use Rattle.std.specs.FinMap.{get-entries}
+use Rattle.std.proofs.Math.Bool.{false≢true}
 use Rattle.irc_names.specs.Lemmas.PlainFacts.{is_true}
 use Rattle.irc_names.specs.Fold.{key}
 use Rattle.irc_names.specs.Greater.{bytes_cmp, greater}
@@ -20,7 +21,6 @@ use Rattle.irc_modes.specs.Modes.{is_nil}
 use Rattle.irc_modes.specs.ModesSet.{AreWithinLimits}
 use Rattle.irc_room.specs.Room.{Room, IsWellFormed, IsSoundRow}
 use Rattle.irc_room.specs.After.{alter_channel, titled_by}
-use Rattle.irc_room.specs.Lemmas.Rows.{not_true}
 use Rattle.irc_merge.specs.Quits.{quits_of, collision_text}
 use Rattle.irc_merge.specs.ShownAlong.{shown_along}
 use Rattle.irc_merge.specs.Bursts.{burst, user_deeds, channel_deeds, home_passes, stored_members}
@@ -127,7 +127,7 @@ module _ (far : List ℕ → Bool) (room other : Room) (well : IsWellFormed room
             ∙ (λ i. cond (is_some (at i) && is_some (none i)) None (at i)),
         all_is (key viewer) ∙ (λ i. told_user (at i) (none i)),
       )
-      by_row (Some user) some left = not_true left
+      by_row (Some user) some left = absurd (false≢true left)
 
   held : AreHeld pass other.users all
   held q holder is passing = all_is q ∙ ap (told_user (row room.users q)) is
@@ -137,7 +137,7 @@ module _ (far : List ℕ → Bool) (room other : Room) (well : IsWellFormed room
       by_row : (o : Option User) → option_map_or (λ (user : User). far user.home)
           (told_user o (Some holder)) false ≡ true → told_user o (Some holder) ≡ Some holder
       by_row None passing = refl
-      by_row (Some user) passing = not_true passing
+      by_row (Some user) passing = absurd (false≢true passing)
 
   -- ---- the members of a channel of the other side
 
@@ -190,7 +190,7 @@ module _ (far : List ℕ → Bool) (room other : Room) (well : IsWellFormed room
     where
       stands : (q : List ℕ) (o : Option User) → row other.users q ≡ o → is_some o ≡ true
           → StandsThere other.users q
-      stands q None is some = not_true some
+      stands q None is some = absurd (false≢true some)
       stands q (Some user) is some =
           record { holder = user; at = is; named = well_other.users_named q user is }
 
@@ -258,8 +258,9 @@ module _ (far : List ℕ → Bool) (room other : Room) (well : IsWellFormed room
       where
         by_member : (b : Bool) → has_member q ours_here ≡ b → b ≡ false
         by_member true is =
-            not_true (sym (ap is_some (none_near far room other well well_other apart q passing))
-            ∙ known q is)
+            absurd (false≢true
+            (sym (ap is_some (none_near far room other well well_other apart q passing))
+            ∙ known q is))
         by_member false is = refl
 
     -- it sees all who come

@@ -3,13 +3,14 @@ use Rattle.std.proofs.Common.{◌≡◌, ℕ, Bool, true, false, cond, Option, S
 use Rattle.std.proofs.Common.{◌∙◌, ap, subst, is_some}
 use Rattle.std.specs.Option.{option_and_then, option_map_or}
 use Rattle.std.specs.FinMap.{keys, retain_keys}
+use Rattle.std.proofs.Math.Bool.{false≢true}
+use Rattle.std.proofs.lemmas.Option.{none-some, same_Some}
 use Rattle.irc_names.specs.Tables.{Table, row, each}
 use Rattle.irc_names.specs.TableLaws.{row-each}
 use Rattle.irc_users.specs.declared.user.User.{User}
 use Rattle.irc_channels.specs.declared.channel.Channel.{Channel}
 use Rattle.irc_modes.specs.Modes.{is_nil}
 use Rattle.irc_room.specs.Room.{Room, IsSoundRow}
-use Rattle.irc_room.specs.Lemmas.Rows.{not_none, not_true, same_some}
 use Rattle.irc_modes.specs.ModesSet.{AreWithinLimits}
 use Rattle.irc_merge.specs.Bursts.{home_passes, user_passes, channel_side, side_of}
 use Rattle.irc_merge.specs.Laws.{CanBeTold, SideIsWellFormed, SideReadIsMerge}
@@ -20,14 +21,14 @@ use Rattle.irc_merge.proofs.ReadMerge.{burst_read_is_merge}
 
 side_row : (passes : List ℕ → Bool) (o : Option User) (user : User) → option_and_then
     (user_passes passes) o ≡ Some user → (o ≡ Some user) × (passes user.home ≡ true)
-side_row passes None user is = not_none user is
+side_row passes None user is = absurd (none-some user is)
 side_row passes (Some before) user is = by_test (passes before.home) refl is
   where
     by_test : (b : Bool) → passes before.home ≡ b → cond b (Some before) None ≡ Some user
         → (Some before ≡ Some user) × (passes user.home ≡ true)
     by_test true pass is =
-        (is, ap (λ (u : User). passes u.home) (sym (same_some before user is)) ∙ pass)
-    by_test false fails is = not_none user is
+        (is, ap (λ (u : User). passes u.home) (sym (same_Some before user is)) ∙ pass)
+    by_test false fails is = absurd (none-some user is)
 
 -- who passes is in the side
 side_keeps : (passes : List ℕ → Bool) (users : Table User) (q : List ℕ)
@@ -37,7 +38,7 @@ side_keeps passes users q pass =
   where
     by_row : (o : Option User) → option_map_or (λ (user : User). passes user.home) o false ≡ true
         → is_some (option_and_then (user_passes passes) o) ≡ true
-    by_row None pass = not_true pass
+    by_row None pass = absurd (false≢true pass)
     by_row (Some user) pass = ap (λ b. is_some (cond b (Some user) None)) pass
 
 kept_passes : {X : Type 0} (table : Table X) (p : List ℕ → Bool) (q : List ℕ)
@@ -60,7 +61,7 @@ record ComesOfChannel (passes : List ℕ → Bool) (users : Table User) (fold : 
 side_channel : (passes : List ℕ → Bool) (users : Table User) (fold : List ℕ) (o : Option Channel)
     (channel : Channel) → option_and_then (channel_side passes users) o ≡ Some channel
     → (before : Channel) × ((o ≡ Some before) × ComesOfChannel passes users fold before channel)
-side_channel passes users fold None channel is = not_none channel is
+side_channel passes users fold None channel is = absurd (none-some channel is)
 side_channel passes users fold (Some before) channel is = (
   before,
   (
@@ -77,8 +78,8 @@ side_channel passes users fold (Some before) channel is = (
           invited = retain_keys before.invited (home_passes passes users);
         })) ≡ Some channel
         → ComesOfChannel passes users fold before channel
-    by_test true none is = not_none channel is
-    by_test false some is = record { is = same_some _ channel is; some = some }
+    by_test true none is = absurd (none-some channel is)
+    by_test false some is = record { is = same_Some _ channel is; some = some }
 
 side_sound : (passes : List ℕ → Bool) (users : Table User) (fold : List ℕ)
     (before channel : Channel) → IsSoundRow users fold before

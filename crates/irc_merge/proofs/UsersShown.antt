@@ -8,6 +8,7 @@ use Rattle.std.specs.List.{AllByRecursion}
 use Rattle.std.specs.Option.{option_and_then, option_map_or}
 use Rattle.std.specs.FinMap.{entries, entries_sorted, find, is_sorted}
 use Rattle.std.specs.FinMap.Entries.{below_all}
+use Rattle.std.proofs.Math.Bool.{false≢true}
 use Rattle.irc_names.specs.Lemmas.PlainFacts.{is_true}
 use Rattle.irc_names.specs.Fold.{key}
 use Rattle.irc_names.specs.Tables.{Table, fold_cmp, row, each}
@@ -18,7 +19,6 @@ use Rattle.irc_room.specs.effect.Effect.TheVariants.{AddUser, Quit}
 use Rattle.irc_room.specs.Room.{Room, IsWellFormed}
 use Rattle.irc_room.specs.After.{after}
 use Rattle.irc_room.specs.Found.{users_under}
-use Rattle.irc_room.specs.Lemmas.Rows.{not_true}
 use Rattle.irc_room.specs.Lemmas.ViewerLaws.{IsNamed, table_named}
 use Rattle.irc_room.specs.Viewers.{shows_to, line_for}
 use Rattle.irc_merge.specs.ShownAlong.{shown_along}
@@ -117,8 +117,8 @@ still_there viewer room e es well named below there still =
   where
     by_fold : (b : Bool) → same_fold (key viewer) e.0 ≡ b
         → is_some (row (met room e.1).users (key viewer)) ≡ true
-    by_fold true one = not_true (sym (ap is_some (ap (λ f. find fold_cmp f es)
-        (one_fold (key viewer) e.0 one) ∙ absent e.0 es below)) ∙ still)
+    by_fold true one = absurd (false≢true (sym (ap is_some (ap (λ f. find fold_cmp f es)
+        (one_fold (key viewer) e.0 one) ∙ absent e.0 es below)) ∙ still))
     by_fold false two =
         ap is_some (other_met room e.1 e.0 well named (key viewer) two)
         ∙ there (ap (λ b. is_some (cond b (Some e.1) (find fold_cmp (key viewer) es))) two ∙ still)
@@ -131,9 +131,9 @@ viewer_apart viewer room e es named there none = by_fold (same_fold (key viewer)
   where
     by_fold : (b : Bool) → same_fold (key viewer) e.0 ≡ b → b ≡ false
     by_fold true one =
-        not_true (sym
+        absurd (false≢true (sym
         (ap is_some (ap (row room.users) (one_fold (key viewer) e.0 one ∙ sym named) ∙ none))
-        ∙ there (ap (λ b. is_some (cond b (Some e.1) (find fold_cmp (key viewer) es))) one))
+        ∙ there (ap (λ b. is_some (cond b (Some e.1) (find fold_cmp (key viewer) es))) one)))
     by_fold false two = refl
 
 one_shows : (viewer own : List ℕ) (far : List ℕ → Bool) (room : Room) (e : List ℕ × User)

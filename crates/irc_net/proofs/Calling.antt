@@ -5,6 +5,7 @@ use Rattle.std.proofs.Common.{zero, suc, take, drop, length, ◌≤◌, Bool, tr
 use Rattle.std.proofs.Common.{Some, None, Result, Ok, Err, IsErrAnd, List, [], refl, sym, subst, ap}
 use Rattle.std.proofs.Common.{if◌then◌else◌, take_all}
 use Rattle.std.specs.List.{slice_get}
+use Rattle.std.proofs.lemmas.Option.{same_Some}
 use Rattle.irc_relay.specs.Links.{Name}
 use Rattle.irc_world.specs.Stepping.{Item}
 use Rattle.irc_net.specs.declared.answer.Answer.{Answer}
@@ -14,7 +15,6 @@ use Rattle.irc_net.specs.declared.fault.NetFault.TheVariants.{Memory}
 use Rattle.irc_net.specs.declared.step.Step.{Step}
 use Rattle.irc_net.specs.declared.step.StepAnswer.{StepAnswer}
 use Rattle.irc_net.specs.declared.step.StepAnswer.TheVariants.{Refused}
-use Rattle.irc_room.specs.Lemmas.Rows.{same_some}
 use Rattle.irc_network.specs.ByteNetwork.{ByteNetwork}
 use Rattle.irc_network.specs.Loops.Coming.{bytes_between, come_between, progress_of}
 use Rattle.irc_line.specs.Bytes.{line_feed}
@@ -246,13 +246,13 @@ refused_step old new step fault breaks refuses = by (is_refusal fault) refl
 taken_on : (steps : List Step) (i : ℕ) (step : Step) → slice_get steps i ≡ Some step
     → take (suc i) steps ≡ take i steps ++ step ∷ []
 taken_on [] i step is = cc is
-taken_on (first ∷ steps) zero step is = ap (λ s. s ∷ []) (same_some first step is)
+taken_on (first ∷ steps) zero step is = ap (λ s. s ∷ []) (same_Some first step is)
 taken_on (first ∷ steps) (suc i) step is = ap (λ ss. first ∷ ss) (taken_on steps i step is)
 
 parted : (steps : List Step) (i : ℕ) (step : Step) → slice_get steps i ≡ Some step
     → steps ≡ take i steps ++ step ∷ drop (suc i) steps
 parted [] i step is = cc is
-parted (first ∷ steps) zero step is = ap (λ s. s ∷ steps) (same_some first step is)
+parted (first ∷ steps) zero step is = ap (λ s. s ∷ steps) (same_Some first step is)
 parted (first ∷ steps) (suc i) step is = ap (λ ss. first ∷ ss) (parted steps i step is)
 
 pub plays_on : {first between last : NetView} (steps : List Step) (answers more : List StepAnswer)

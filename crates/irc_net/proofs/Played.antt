@@ -4,8 +4,9 @@ use Rattle.std.proofs.Common.{List, [], ◌∷◌, ◌++◌, ◌+◌, length, re
 use Rattle.std.proofs.Common.{option_map, if◌then◌else◌}
 use Rattle.std.proofs.lemmas.List.{append-nil, append_assoc, length-append}
 use Rattle.std.specs.List.{AllByRecursion}
+use Rattle.std.proofs.Math.Bool.{false≢true}
+use Rattle.std.proofs.lemmas.Option.{none-some, same_Some}
 use Rattle.irc_relay.specs.Links.{Name}
-use Rattle.irc_room.specs.Lemmas.Rows.{not_none, not_true, same_some}
 use Rattle.irc_server.specs.declared.config.Config.{Config}
 use Rattle.irc_world.specs.Refused.{Refusal, link_refused, no_such_client, no_such_server}
 use Rattle.irc_world.specs.Refused.{not_linked}
@@ -31,9 +32,9 @@ use Rattle.irc_network.specs.Refusing.{fault_at_rest, way_fault}
 
 refusal_of_world : (o : Option Refusal) (fault : NetFault) → option_map fault_by o ≡ Some fault
     → is_refusal fault ≡ true
-refusal_of_world None fault is = not_none fault is
+refusal_of_world None fault is = absurd (none-some fault is)
 refusal_of_world (Some refusal) fault is =
-    subst (λ f. is_refusal f ≡ true) (same_some (fault_by refusal) fault is) (by refusal)
+    subst (λ f. is_refusal f ≡ true) (same_Some (fault_by refusal) fault is) (by refusal)
   where
     by : (refusal : Refusal) → is_refusal (fault_by refusal) ≡ true
     by no_such_server = refl
@@ -49,7 +50,7 @@ item_refused net item fault is = by (is_byte_rest net) is
     by : (b : Bool) → (if b then option_map fault_by (fault_at_rest net.network item)
         else Some NotAtRest) ≡ Some fault → is_refusal fault ≡ true
     by true is = refusal_of_world (fault_at_rest net.network item) fault is
-    by false is = subst (λ f. is_refusal f ≡ true) (same_some NotAtRest fault is) refl
+    by false is = subst (λ f. is_refusal f ≡ true) (same_Some NotAtRest fault is) refl
 
 way_refused : (net : ByteNetwork) (from to : Name) (fault : NetFault)
     → deliver_fault net from to ≡ Some fault → is_refusal fault ≡ true
@@ -62,22 +63,24 @@ item_stays : (old new : NetView) (item : Item) (fault : NetFault) → IsGiven ol
     → is_refusal fault ≡ true → old ≡ new
 item_stays old new item fault (calls.given_refused stands why) refusal = refl
 item_stays old new item fault (calls.given_wants_memory stands none failed) refusal =
-    not_true refusal
-item_stays old new item fault (calls.given_to_failed failed) refusal = not_true refusal
+    absurd (false≢true refusal)
+item_stays old new item fault (calls.given_to_failed failed) refusal = absurd (false≢true refusal)
 
 delivery_stays : (old new : NetView) (from to : Name) (fault : NetFault)
     → IsDelivered old from to (Err fault) new → is_refusal fault ≡ true → old ≡ new
 delivery_stays old new from to fault (calls.delivery_refused stands why) refusal = refl
 delivery_stays old new from to fault (calls.delivery_wants_memory stands none failed) refusal =
-    not_true refusal
-delivery_stays old new from to fault (calls.delivery_by_failed failed) refusal = not_true refusal
+    absurd (false≢true refusal)
+delivery_stays old new from to fault (calls.delivery_by_failed failed) refusal =
+    absurd (false≢true refusal)
 
 bytes_stay : (old new : NetView) (from to : Name) (count : ℕ) (fault : NetFault)
     → BytesTaken old from to count (Err fault) new → is_refusal fault ≡ true → old ≡ new
 bytes_stay old new from to count fault (calls.taking_refused stands why) refusal = refl
 bytes_stay old new from to count fault (calls.taking_wants_memory stands none failed) refusal =
-    not_true refusal
-bytes_stay old new from to count fault (calls.taking_by_failed failed) refusal = not_true refusal
+    absurd (false≢true refusal)
+bytes_stay old new from to count fault (calls.taking_by_failed failed) refusal =
+    absurd (false≢true refusal)
 
 -- ---- one step
 
@@ -167,16 +170,16 @@ plays_run configs items {new = new} runs
 breaks_it : (old new : NetView) (step : Step) (fault : NetFault) → Breaks old step fault new
     → is_refusal fault ≡ false → new.failed ≡ true
 breaks_it old new (Give item) fault (calls.given_refused stands why) want =
-    not_true (sym want ∙ item_refused old.network _ fault why)
+    absurd (false≢true (sym want ∙ item_refused old.network _ fault why))
 breaks_it old new (Give item) fault (calls.given_wants_memory stands none failed) want = failed
 breaks_it old new (Give item) fault (calls.given_to_failed failed) want = failed
 breaks_it old new (Deliver from to) fault (calls.delivery_refused stands why) want =
-    not_true (sym want ∙ way_refused old.network from to fault why)
+    absurd (false≢true (sym want ∙ way_refused old.network from to fault why))
 breaks_it old new (Deliver from to) fault (calls.delivery_wants_memory stands none failed) want =
     failed
 breaks_it old new (Deliver from to) fault (calls.delivery_by_failed failed) want = failed
 breaks_it old new (Bytes from to count) fault (calls.taking_refused stands why) want =
-    not_true (sym want ∙ way_refused old.network from to fault why)
+    absurd (false≢true (sym want ∙ way_refused old.network from to fault why))
 breaks_it old new (Bytes from to count) fault (calls.taking_wants_memory stands none failed) want =
     failed
 breaks_it old new (Bytes from to count) fault (calls.taking_by_failed failed) want = failed

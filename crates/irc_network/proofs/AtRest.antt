@@ -6,7 +6,7 @@ use Rattle.std.specs.FinMap.{contains_key-keys, get, keys}
 use Rattle.std.specs.List.{find, list_all, list_any, slice_get}
 use Rattle.std.specs.Option.{option_and_then, option_map_or}
 use Rattle.std.proofs.lemmas.Bool.{not-true, and_parts}
-use Rattle.irc_room.specs.Lemmas.Rows.{same_some}
+use Rattle.std.proofs.lemmas.Option.{same_Some}
 use Rattle.irc_stage.specs.Lemmas.Numbers.{one_number, same_number}
 use Rattle.irc_network.specs.Network.{Progress, Node, delivered, direction, first_among}
 use Rattle.irc_network.specs.Network.{first_way, given, is_at_rest, is_nothing, is_quiet, taken_of}
@@ -59,7 +59,7 @@ quiet_way node to quiet = by (get node.queues to) refl
 quiet_at : (nodes : List Node) (place : ℕ) → list_all is_quiet nodes ≡ true → (node : Node)
     → slice_get nodes place ≡ Some node → is_quiet node ≡ true
 quiet_at [] place all node is = cc is
-quiet_at (first ∷ nodes) zero all node is = ap is_quiet (sym (same_some first node is))
+quiet_at (first ∷ nodes) zero all node is = ap is_quiet (sym (same_Some first node is))
     ∙ (and_parts (is_quiet first) (list_all is_quiet nodes) all).0
 quiet_at (first ∷ nodes) (suc place) all node is =
     quiet_at nodes place (and_parts (is_quiet first) (list_all is_quiet nodes) all).1 node is

@@ -2,9 +2,9 @@
 use Rattle.std.proofs.Common.{◌≡◌, ◌<◌, ℕ, Option, Some, None, refl, sym, ◌∙◌, ap, length}
 use Rattle.std.specs.Borrow.{Bor}
 use Rattle.std.specs.Option.{option_and_then, option_copied, option_map}
+use Rattle.std.proofs.lemmas.Option.{same_Some}
 use Rattle.irc_forest.specs.Forests.{name_at}
 use Rattle.irc_room.specs.Applying.{ServerRoom}
-use Rattle.irc_room.specs.Lemmas.Rows.{same_some}
 use Rattle.irc_server.specs.Loops.Acting.{room_kept, room_of}
 use Rattle.irc_stage.specs.View.{View}
 use Rattle.irc_network.specs.declared.refusing.Party.{Party}
@@ -22,7 +22,7 @@ room_there : (party : Party) (view : View) → party.node.now.server ≡ Some vi
     → option_map room_of party.node.now.server ≡ Some party.room.now.room
     → party.room.now.room ≡ view.room
 room_there party view is room =
-    sym (same_some (room_of view) party.room.now.room (sym (ap (option_map room_of) is) ∙ room))
+    sym (same_Some (room_of view) party.room.now.room (sym (ap (option_map room_of) is) ∙ room))
 
 party_there : (net : Network) (party : Party) → server_place net party.name.now ≡ Some party.place
     → party.place < length net.names → name_at net.names party.place ≡ party.name.now

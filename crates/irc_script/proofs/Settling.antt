@@ -6,12 +6,12 @@ use Rattle.std.specs.FinMap.{FinMap, keys}
 use Rattle.std.specs.List.{find, list_all}
 use Rattle.std.specs.Option.{option_map, option_map_or}
 use Rattle.std.specs.Ordering.{nat_cmp}
+use Rattle.std.proofs.lemmas.Option.{same_Some}
 use Rattle.irc_line.specs.Lines.{has_nothing}
 use Rattle.irc_net.specs.ByteNetwork.{ByteNetwork, is_byte_rest}
 use Rattle.irc_net.specs.Turns.{TurnsGo, lines_in_turn, none_yet, turn_first, turn_in, turn_taken}
 use Rattle.irc_net.specs.Calls.{NetView, Settles, standing}
 use Rattle.irc_net.specs.Network.{Progress, Receipt, max_count}
-use Rattle.irc_room.specs.Lemmas.Rows.{same_some}
 use Rattle.irc_wires.specs.Wires.{Direction, LinkWire, Wires, are_still, are_still_in, first_from}
 use Rattle.irc_wires.specs.Wires.{first_in, has_byte, is_none, is_still, wire_in}
 use Rattle.irc_script.specs.RunLaws.{SettlesToRest}
@@ -70,7 +70,7 @@ turns_one {progress = progress} (turn_first turn all goes) rest none_yet rest' =
 turns_one {progress = progress} {next = next}
     (turn_first {count = n} {between = a} turn all goes) rest
     (turn_first {count = m} {between = b} turn' all' goes') rest' =
-    let one : a ≡ b = same_some a b (sym turn ∙ turn') in
+    let one : a ≡ b = same_Some a b (sym turn ∙ turn') in
     let same = turns_one goes rest (subst (λ c. TurnsGo m c next) (sym one) goes') rest' in
     record {
       count_is = all ∙ ap (λ k. lines_in_turn progress.state + k) same.count_is ∙ sym all';

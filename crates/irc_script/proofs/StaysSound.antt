@@ -4,6 +4,7 @@ use Rattle.std.proofs.Common.{if◌then◌else◌}
 use Rattle.std.specs.Bool.{⊤}
 use Rattle.std.specs.List.{AllByRecursion}
 use Rattle.std.specs.Option.{option_and_then, option_map_or}
+use Rattle.std.proofs.lemmas.Option.{same_Some}
 use Rattle.irc_net.specs.ByteNetwork.{ByteNetwork}
 use Rattle.irc_net.specs.declared.fault.NetFault.{NetFault}
 use Rattle.irc_net.specs.Calls.{delivery, line_between, piece_between, wire_between}
@@ -11,7 +12,6 @@ use Rattle.irc_net.specs.Faults.{deliver_fault, item_fault}
 use Rattle.irc_net.specs.Laws.{StaysKept}
 use Rattle.irc_net.specs.OneRoom.{IsKeptSound}
 use Rattle.irc_net.specs.Network.{Progress, LinkPlaces, begun, link_places}
-use Rattle.irc_room.specs.Lemmas.Rows.{same_some}
 use Rattle.irc_wires.specs.Wires.{has_byte, through_line_feed}
 use Rattle.irc_net.specs.WithinLimits.{IsItemWithin}
 use Rattle.irc_script.specs.Moves.{Move, gives, delivers_line, takes_bytes, settles_all, moves_of}
@@ -48,7 +48,7 @@ line_kept laws first (Some ends) progress is kept = by (has_byte (wire_between f
         else None) (Some progress) → IsKeptSound progress.state
     by true e =
         subst (λ (c : Progress ByteNetwork). IsKeptSound c.state)
-        (same_some (piece_between count first ends)
+        (same_Some (piece_between count first ends)
         progress e) (laws.come first ends.near ends.far count kept)
     by false e = absurd (cc e)
 

@@ -11,6 +11,7 @@ use Rattle.std.specs.List.{cons_option, flat_map, list_all, list_any}
 use Rattle.std.specs.Option.{option_map_or}
 use Rattle.std.specs.Ordering.{nat_cmp}
 use Rattle.std.specs.Cmp.{first_so}
+use Rattle.std.proofs.Math.Facts.{and_yes}
 use Rattle.irc_names.specs.Lemmas.PlainFacts.{and_neither, and_not}
 use Rattle.irc_batch.specs.Batches.{Sent, end_of, end_of_link, line_on, line_to}
 use Rattle.irc_batch.specs.declared.close_reason.CloseReason.{CloseReason}
@@ -29,7 +30,6 @@ use Rattle.irc_commands.specs.Closing.{error_line}
 use Rattle.irc_commands.specs.Register.{register}
 use Rattle.irc_room.specs.effect.Effect.{Effect}
 use Rattle.irc_room.specs.effect.Effect.TheVariants.{Quit, Rename}
-use Rattle.irc_room.specs.Lemmas.ViewerLaws.{both_true}
 use Rattle.irc_room.specs.Effects.{has_user}
 use Rattle.irc_room.specs.Seen.{Showing, seen}
 use Rattle.irc_routes.specs.Known.{place_of}
@@ -204,14 +204,14 @@ ended_among : (nick : List ℕ) (q : ℕ) (es : List (ℕ × Client))
 ended_among nick q [] rise = refl
 ended_among nick q (e ∷ es) rise =
     by (same_number q e.0) refl (is_client nick e.1) refl
-    (ended_among nick q es (both_true _ _ rise).1)
+    (ended_among nick q es (and_yes _ _ rise).1)
   where
     rest : List Sent
     rest =
         filter_map (λ (c : ℕ × Client). if is_client nick c.1 then Some (end_of c.0) else None) es
 
     none : q ≡ e.0 → find nat_cmp q es ≡ None
-    none is = ap (λ n. find nat_cmp n es) is ∙ none_behind e es (both_true _ _ rise).0
+    none is = ap (λ n. find nat_cmp n es) is ∙ none_behind e es (and_yes _ _ rise).0
 
     by : (s : Bool) → same_number q e.0 ≡ s → (t : Bool) → is_client nick e.1 ≡ t
         → is_client_ended q rest ≡ option_map_or (is_client nick) (find nat_cmp q es) false

@@ -4,9 +4,9 @@ use Rattle.std.proofs.Common.{List, refl, sym, ◌∙◌, ap, subst, option_map,
 use Rattle.std.proofs.lemmas.Bool.{eq-eqb}
 use Rattle.std.specs.FinMap.{get, insert, remove}
 use Rattle.std.specs.Option.{option_and_then}
+use Rattle.std.proofs.lemmas.Option.{same_Some}
 use Rattle.irc_names.specs.Tables.{row}
 use Rattle.irc_names.specs.TableLaws.{same_fold, row-alter, row-each}
-use Rattle.irc_room.specs.Lemmas.Rows.{same_some}
 use Rattle.irc_stage.specs.Ends.{End, Ends, is_met}
 use Rattle.irc_stage.specs.Ways.{AreEnds, IsMetEnd}
 use Rattle.irc_routes.specs.declared.server_row.ServerRow.{ServerRow}
@@ -83,7 +83,7 @@ added_met ends known link uplink name distance token info met here q number is =
     by : (b : Bool) → option_map link_of
         (cond b (Some (new_row link uplink name distance token info known)) (row known.rows q))
         ≡ Some number → IsMetEnd (get ends number)
-    by true one = subst (λ n. IsMetEnd (get ends n)) (same_some link number one) here
+    by true one = subst (λ n. IsMetEnd (get ends n)) (same_Some link number one) here
     by false other = met q number other
 
 -- a server less
@@ -117,7 +117,7 @@ unlinked_met ends known link met q number is =
         → IsMetEnd (get (remove ends link) number)
     still r is_there true one none = cc none
     still r is_there false two left =
-        let number_is = same_some r.link number left in
+        let number_is = same_Some r.link number left in
         subst IsMetEnd
         (sym (get-without ends link number ∙ ap (λ b. cond b None (get ends number))
         (ap (λ n. same_number n link) (sym number_is) ∙ not_it r.link two)))

@@ -8,13 +8,13 @@ use Rattle.std.specs.FinMap.{entries, from_entries, get, get-from_entries}
 use Rattle.std.specs.Cmp.{nat_cmp_total}
 use Rattle.std.specs.List.{flat_map, list_all}
 use Rattle.std.specs.Ordering.{nat_cmp}
+use Rattle.irc_names.specs.Lemmas.PlainFacts.{is_some-map}
 use Rattle.irc_names.specs.Lemmas.PlainFacts.{list_all-filter}
 use Rattle.irc_batch.specs.Batches.{Sent, end_of, is_number, line_on, line_to}
 use Rattle.irc_line.specs.Messages.{Written, text}
 use Rattle.irc_room.specs.effect.Effect.{Effect}
 use Rattle.irc_room.specs.effect.Effect.TheVariants.{Rename, Quit}
 use Rattle.irc_room.specs.Effects.{has_user}
-use Rattle.irc_room.specs.Lemmas.Rows.{is_some_map}
 use Rattle.irc_room.specs.Seen.{Showing, seen}
 use Rattle.irc_merge.specs.Deeds.{Deed, does, gains, loses, kills, brings, sets, tops, effects_of}
 use Rattle.irc_merge.specs.Quits.{collision_text}
@@ -146,7 +146,7 @@ module _ (start : View) where
   still_client : (effect : Effect) (clients : Clients) (conn : ℕ)
       → is_some (get (clients_after effect clients) conn) ≡ true → is_some (get clients conn) ≡ true
   still_client (Rename nick new) clients conn is =
-      sym (is_some_map (renamed_in nick new) (get clients conn))
+      sym (is_some-map (renamed_in nick new) (get clients conn))
       ∙ sym (ap is_some (get-each (renamed_in nick new) clients conn)) ∙ is
   still_client other clients conn is = is
 

@@ -3,6 +3,7 @@
 use Rattle.std.proofs.Common.{◌≡◌, ℕ, Option, Some, None, Result, Ok, Err, IsErrAnd, List, ◌++◌}
 use Rattle.std.proofs.Common.{sym, ◌∙◌, ap, subst}
 use Rattle.std.specs.FinMap.{get}
+use Rattle.std.proofs.lemmas.Option.{same_Some}
 use Rattle.irc_line.specs.Reading.{read_of}
 use Rattle.irc_batch.specs.Batches.{Sent}
 use Rattle.irc_stage.specs.View.{View}
@@ -12,14 +13,13 @@ use Rattle.irc_server.specs.declared.event.ServerFault.TheVariants.{Memory, Fail
 use Rattle.irc_server.specs.LinesThatSet.{IsSetBy, has_failed, line_set, refuses_it, takes_it}
 use Rattle.irc_server.specs.LinesThatSet.{wants_memory}
 use Rattle.irc_server.specs.Loops.Settings.{fault_at}
-use Rattle.irc_room.specs.Lemmas.Rows.{same_some}
 
 pub refused_at : (now : Option View) (link : ℕ) (line : List ℕ) (out : List Sent)
     (fault : ServerFault) → fault_at now link ≡ Some fault
     → IsSetBy now link line out (Err fault) now out
 refused_at None link line out fault owed =
     subst (λ (f : ServerFault). IsSetBy None link line out (Err f) None out)
-    (same_some Failed fault owed) has_failed
+    (same_Some Failed fault owed) has_failed
 refused_at (Some view) link line out fault owed = refuses_it owed
 
 pub memory_out : (now new : Option View) (link : ℕ) (line : List ℕ) (out out_after : List Sent)

@@ -4,6 +4,7 @@ use Rattle.std.proofs.Common.{refl, sym, ◌∙◌, ap, subst, option_map}
 use Rattle.std.specs.Borrow.{Bor}
 use Rattle.std.specs.FinMap.{get}
 use Rattle.std.specs.Option.{option_copied, option_or}
+use Rattle.std.proofs.lemmas.Option.{same_Some}
 use Rattle.arrayvec.specs.ArrayVec.{ArrayVec}
 use Rattle.irc_line.specs.Messages.{Parsed}
 use Rattle.irc_line.specs.MessageViews.{optional_now}
@@ -12,7 +13,6 @@ use Rattle.irc_channels.specs.Texts.{cut_words}
 use Rattle.irc_users.specs.declared.user.User.{User}
 use Rattle.irc_room.specs.Room.{IsWellFormed}
 use Rattle.irc_routes.specs.Known.{place_of}
-use Rattle.irc_room.specs.Lemmas.Rows.{same_some}
 use Rattle.irc_acts.specs.declared.act.Act.{Act}
 use Rattle.irc_commands.specs.declared.pending.Registration.{Registration}
 use Rattle.irc_commands.specs.RegisteringViews.{registered_of}
@@ -51,7 +51,7 @@ pub decided_by_name : (view : View) (conn : ℕ) (o : Option User) (name : List 
 decided_by_name view conn None name message is = cc is
 decided_by_name view conn (Some user) name message is =
     ap (λ n. decision_told conn (Some n) (decide view.room (place_of view.routes) n message)
-    (in_silence view)) (sym (same_some (user.nick) name is))
+    (in_silence view)) (sym (same_Some (user.nick) name is))
 
 pub lost_is_whole : cut_words lost_text ≡ lost_text
 unfolding cut_words
@@ -189,7 +189,7 @@ matched_after stays view event done matched well owed is =
 -- what is taken out of a server is what it was, and nothing is left
 pub kept_view : (now : Option View) (view kept : View) → now ≡ Some view → now ≡ Some kept
     → kept ≡ view
-kept_view now view kept is taken_is = same_some kept view (sym taken_is ∙ is)
+kept_view now view kept is taken_is = same_Some kept view (sym taken_is ∙ is)
 
 pub nothing_kept : (first stage : Option View) → first ≡ None → stage ≡ None
     → option_or first stage ≡ None

@@ -12,6 +12,7 @@ use Rattle.std.specs.FinMap.{values, get-entries, slice_cmp-IsAntisymmetric}
 use Rattle.std.specs.FinMap.{nat_cmp-IsAntisymmetric}
 use Rattle.std.specs.FinMap.Entries.{below_all, same_entries}
 use Rattle.std.proofs.Math.Facts.{yes_and}
+use Rattle.std.proofs.Math.Facts.{and_yes}
 use Rattle.irc_batch.specs.Batches.{is_number}
 use Rattle.irc_names.specs.Fold.{key, same}
 use Rattle.irc_names.specs.Tables.{Table, fold_cmp, row}
@@ -23,7 +24,6 @@ use Rattle.irc_channels.specs.declared.channel.Channel.{Channel}
 use Rattle.irc_channels.specs.Channels.{has_member}
 use Rattle.irc_room.specs.Room.{Room, IsWellFormed}
 use Rattle.irc_room.specs.Laws.{no_room}
-use Rattle.irc_room.specs.Lemmas.ViewerLaws.{both_true}
 use Rattle.irc_stage.specs.declared.clients.Client.TheVariants.{Registered}
 use Rattle.irc_stage.specs.RoomMachine.{Clients}
 use Rattle.irc_stage.specs.Lemmas.Matching.{named_is}
@@ -39,7 +39,7 @@ pub each_entry : {V : Type 0} (P : List ℕ → V → Type 0) (es : List (List �
     → AllByRecursion (λ (e : List ℕ × V). P e.0 e.1) es
 each_entry P [] rise holds = tt
 each_entry {V} P (e ∷ es) rise holds =
-    let parts = both_true _ _ rise in (
+    let parts = and_yes _ _ rise in (
       holds e.0 e.1 (ap (λ b. cond b (Some e.1) (find fold_cmp e.0 es)) (same_fold-refl e.0)),
       each_entry P es parts.1 (λ q v is. holds q v (later q v parts.0 is (same_fold q e.0) refl)),
     )
@@ -66,7 +66,7 @@ module _ {X : Type 0} (want : List ℕ → Option ℕ) where
       → T (below_all fold_cmp q (wanted es))
   below_wanted q [] below = tt
   below_wanted q (e ∷ es) below =
-      let parts = both_true _ _ below in by_want (want e.0) parts.0 (below_wanted q es parts.1)
+      let parts = and_yes _ _ below in by_want (want e.0) parts.0 (below_wanted q es parts.1)
     where
       by_want : (o : Option ℕ) → T (is_lt (fold_cmp q e.0)) → T (below_all fold_cmp q (wanted es))
           → T (below_all fold_cmp q (with_it e.0 o (wanted es)))
@@ -76,7 +76,7 @@ module _ {X : Type 0} (want : List ℕ → Option ℕ) where
   sorted_wanted : (es : List (List ℕ × X)) → T (is_sorted fold_cmp es)
       → T (is_sorted fold_cmp (wanted es))
   sorted_wanted [] rise = tt
-  sorted_wanted (e ∷ es) rise = let parts = both_true _ _ rise in
+  sorted_wanted (e ∷ es) rise = let parts = and_yes _ _ rise in
       by_want (want e.0) (below_wanted e.0 es parts.0) (sorted_wanted es parts.1)
     where
       by_want : (o : Option ℕ) → T (below_all fold_cmp e.0 (wanted es))
@@ -88,7 +88,7 @@ module _ {X : Type 0} (want : List ℕ → Option ℕ) where
       → find fold_cmp q (wanted es) ≡ option_and_then (λ (x : X). want q) (find fold_cmp q es)
   find_wanted q [] rise = refl
   find_wanted q (e ∷ es) rise =
-      let parts = both_true _ _ rise in
+      let parts = and_yes _ _ rise in
       by_want (want e.0) (same_fold q e.0) refl refl parts.0 (find_wanted q es parts.1)
     where
       by_want : (o : Option ℕ) (one : Bool) → want e.0 ≡ o

@@ -3,11 +3,11 @@ use Rattle.std.proofs.Common.{◌≡◌, ℕ, Bool, true, false, cond, Option, S
 use Rattle.std.proofs.Common.{◌∙◌, ap, subst, option_map, if◌then◌else◌}
 use Rattle.std.specs.FinMap.{empty, get, insert, remove, get-empty}
 use Rattle.std.specs.Ordering.{nat_cmp}
+use Rattle.std.proofs.lemmas.Option.{same_Some}
 use Rattle.irc_names.specs.Fold.{key, same}
 use Rattle.irc_names.specs.Tables.{Table, row, alter, moved, put_row, fold_cmp}
 use Rattle.irc_names.specs.TableLaws.{same_fold, same_fold-refl, one_fold, row-alter, row-moved}
 use Rattle.irc_names.specs.TableLaws.{row-moved_none, same_table}
-use Rattle.irc_room.specs.Lemmas.Rows.{same_some}
 use Rattle.irc_stage.specs.declared.clients.Client.{Client}
 use Rattle.irc_stage.specs.declared.clients.Client.TheVariants.{Registering, Registered}
 use Rattle.irc_stage.specs.RoomMachine.{Clients, each_client}
@@ -94,7 +94,7 @@ module _ (clients : Clients) (by_nick : Table ℕ) (index : IsIndex clients by_n
           → IsRegisteredAs fold (get (insert clients conn (Registered nick)) q)
       by fold q true one is =
           subst (IsRegisteredAs fold) (sym (at_it clients conn q (Registered nick)
-          (sym (same_some conn q is)))) (sym (one_fold fold (key nick) one))
+          (sym (same_Some conn q is)))) (sym (one_fold fold (key nick) one))
       by fold q false two is = apart_from clients conn q fold (index.there fold q is) none
           (λ apart. subst (IsRegisteredAs fold)
           (sym (at_other clients conn q (Registered nick) apart)) (index.there fold q is))
@@ -112,7 +112,7 @@ same_conn : (clients : Clients) (by_nick : Table ℕ) → IsIndex clients by_nic
     → (conn q : ℕ) (nick name : List ℕ) → get clients conn ≡ Some (Registered nick)
     → get clients q ≡ Some (Registered name) → key name ≡ key nick → q ≡ conn
 same_conn clients by_nick index conn q nick name mine was one =
-    same_some q conn (sym (index.found q name was) ∙ ap (row by_nick) one
+    same_Some q conn (sym (index.found q name was) ∙ ap (row by_nick) one
     ∙ index.found conn nick mine)
 
 apart_names : {A : Type 0} (clients : Clients) (by_nick : Table ℕ) → IsIndex clients by_nick
@@ -205,14 +205,14 @@ module _ (clients : Clients) (by_nick : Table ℕ) (index : IsIndex clients by_n
           (sym (one_number q conn one)) (index.there (key old) conn is_conn))
       by q false two = sym (not_renamed old new (get clients q) (λ name is. differs name old (λ one.
           let number : q ≡ conn =
-          same_some q conn (sym (index.found q name is) ∙ ap (row by_nick) one ∙ is_conn) in
+          same_Some q conn (sym (index.found q name is) ∙ ap (row by_nick) one ∙ is_conn) in
           let same_too = ap (same_number q) (sym number) ∙ same_number-refl q in cc)))
 
   elsewhere : {A : Type 0} (q : ℕ) (name : List ℕ) → get clients q ≡ Some (Registered name)
       → same_number q conn ≡ false → key name ≡ key old → A
   elsewhere q name was two one =
       let number : q ≡ conn =
-      same_some q conn (sym (index.found q name was) ∙ ap (row by_nick) one ∙ is_conn) in
+      same_Some q conn (sym (index.found q name was) ∙ ap (row by_nick) one ∙ is_conn) in
       let same_too = ap (same_number q) (sym number) ∙ same_number-refl q in cc
 
   pub renamed_indexed : IsFreeFor old new clients → IsIndex (insert clients conn (Registered new))
@@ -265,7 +265,7 @@ module _ (clients : Clients) (by_nick : Table ℕ) (index : IsIndex clients by_n
           ≡ Some q → IsRegisteredAs fold (get (insert clients conn (Registered new)) q)
       by fold q true c is_new is_old is =
           subst (IsRegisteredAs fold) (sym (at_it clients conn q (Registered new)
-          (sym (same_some conn q is)))) (sym (one_fold fold (key new) is_new))
+          (sym (same_Some conn q is)))) (sym (one_fold fold (key new) is_new))
       by fold q false true is_new is_old is = cc is
       by fold q false false is_new is_old is =
           stays fold q is_old (index.there fold q is) (same_number q conn) refl

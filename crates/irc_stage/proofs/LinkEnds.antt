@@ -6,9 +6,9 @@ use Rattle.std.specs.BTreeMap.{BTreeMap, get as number_in}
 use Rattle.std.specs.FinMap.{entries, find, get, get-entries, insert, remove}
 use Rattle.std.specs.Option.{option_and_then, option_map, option_map_or}
 use Rattle.std.specs.Ordering.{nat_cmp}
+use Rattle.std.proofs.lemmas.Option.{same_Some}
 use Rattle.irc_names.specs.Tables.{Table, fold_cmp, row}
 use Rattle.irc_names.specs.TableLaws.{same_fold, row-alter, row-each}
-use Rattle.irc_room.specs.Lemmas.Rows.{same_some}
 use Rattle.irc_stage.specs.Ends.{End, Ends, is_met}
 use Rattle.irc_stage.specs.Ways.{AreEnds, IsMetEnd}
 use Rattle.irc_stage.specs.Loops.Branching.{IsRightIn, KnowsNothing}
@@ -57,7 +57,7 @@ added_met ends known link uplink name distance token info met there q number is 
     by : (b : Bool) → option_map (λ (r : ServerRow). r.link)
         (cond b (Some (new_row link uplink name distance token info known)) (row known.rows q))
         ≡ Some number → IsMetEnd (get ends number)
-    by true one = subst (λ n. IsMetEnd (get ends n)) (same_some link number one) there
+    by true one = subst (λ n. IsMetEnd (get ends n)) (same_Some link number one) there
     by false other = met q number other
 
 -- a server less
@@ -91,7 +91,7 @@ unlinked_met ends known link met q number is =
         → IsMetEnd (get (remove ends link) number)
     still r there true one none = cc none
     still r there false two left =
-        let number_is = same_some r.link number left in
+        let number_is = same_Some r.link number left in
         subst IsMetEnd
         (sym (get-without ends link number ∙ ap (λ b. cond b None (get ends number))
         (ap (λ n. same_number n link) (sym number_is) ∙ not_it r.link two)))

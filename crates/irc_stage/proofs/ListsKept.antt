@@ -9,6 +9,7 @@ use Rattle.std.specs.FinMap.{get-entries}
 use Rattle.std.specs.FinMap.Entries.{below_all}
 use Rattle.std.specs.Cmp.Lexicographic.{nat_list_cmp_total}
 use Rattle.std.proofs.lemmas.Option.{same_Some}
+use Rattle.std.proofs.Math.Facts.{and_yes}
 use Rattle.irc_names.specs.Lemmas.PlainFacts.{is_true}
 use Rattle.irc_names.specs.Fold.{key}
 use Rattle.irc_names.specs.Tables.{Table, fold_cmp, row, put, alter, moved}
@@ -24,7 +25,6 @@ use Rattle.irc_room.specs.Effects.{IsPossible}
 use Rattle.irc_room.specs.Room.{Room, IsWellFormed}
 use Rattle.irc_room.specs.Readers.{channels_of}
 use Rattle.irc_room.specs.Lemmas.Rows.{some_key}
-use Rattle.irc_room.specs.Lemmas.ViewerLaws.{both_true}
 use Rattle.irc_stage.specs.Loops.Listening.{Conns, Lists, conn_in, kept_at, is_in, heard_at}
 use Rattle.irc_stage.specs.Loops.Listening.{folds_of, index_after, is_named, while_used, with_conn}
 use Rattle.irc_stage.specs.Loops.Listening.{without_conn, AreSo, AreUsed, Forgets, IsNoMove, Sets}
@@ -233,7 +233,7 @@ named_found : {X : Type 0} (test : X → Bool) (es : List (List ℕ × X)) → T
     ≡ option_map_or test (find fold_cmp c es) false
 named_found test [] rise c = refl
 named_found {X} test (e ∷ es) rise c =
-    let parts = both_true _ _ rise in
+    let parts = and_yes _ _ rise in
     by_test (test e.1) (same_fold c e.0) refl refl parts.0 (named_found test es parts.1 c)
   where
     by_test : (passes one : Bool) → test e.1 ≡ passes → same_fold c e.0 ≡ one

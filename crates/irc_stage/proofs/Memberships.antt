@@ -3,6 +3,7 @@ use Rattle.std.proofs.Common.{◌≡◌, ℕ, Bool, true, false, cond, not, ◌&
 use Rattle.std.proofs.Common.{Option, Some, None, List, refl, sym, ◌∙◌, ap, is_some}
 use Rattle.std.proofs.Common.{option_map, unwrap_or}
 use Rattle.std.specs.Option.{option_and_then}
+use Rattle.std.proofs.Math.Bool.{and-false}
 use Rattle.irc_names.specs.Fold.{key, same}
 use Rattle.irc_names.specs.FoldLaws.{same-tells}
 use Rattle.irc_names.specs.Tables.{Table, row, alter}
@@ -17,7 +18,7 @@ use Rattle.irc_room.specs.effect.Effect.TheVariants.{ChangeModes, SetTopic, Say,
 use Rattle.irc_room.specs.After.{after, titled_by}
 use Rattle.irc_room.specs.Effects.{IsPossible}
 use Rattle.irc_room.specs.Room.{Room, IsWellFormed}
-use Rattle.irc_room.specs.Lemmas.Members.{is_member_of, and_false, joined_said, left_said}
+use Rattle.irc_room.specs.Lemmas.Members.{is_member_of, joined_said, left_said}
 use Rattle.irc_room.specs.Lemmas.Members.{member_changed_modes, member_while, moved_row, taken_out}
 use Rattle.irc_stage.specs.Loops.Listening.{is_in, IsNoMove}
 
@@ -109,7 +110,7 @@ quits room nick text n c = ap (is_member_of n) (row-each (without_user (key nick
   where
     by_row : (o : Option Channel) → is_member_of n (option_and_then (without_user (key nick)) o)
         ≡ (not (same_fold n (key nick)) && is_member_of n o)
-    by_row None = sym (and_false (not (same_fold n (key nick))))
+    by_row None = sym (and-false (not (same_fold n (key nick))))
     by_row (Some channel) =
         member_while (record channel {
           members = alter (key nick) (λ _. None) channel.members;

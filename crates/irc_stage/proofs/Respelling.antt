@@ -3,6 +3,7 @@ use Rattle.std.specs.Prelude.{OnOk, OnErr}
 use Rattle.std.proofs.Common.{◌≡◌, ℕ, false, Option, Some, None, Result, Ok, Err, List, refl, sym}
 use Rattle.std.proofs.Common.{◌∙◌, ap, subst, is_some, option_map, if◌then◌else◌}
 use Rattle.std.specs.Result.{result_err}
+use Rattle.std.proofs.lemmas.Option.{none-some}
 use Rattle.irc_names.specs.Fold.{key}
 use Rattle.irc_names.specs.Tables.{Table, row}
 use Rattle.irc_channels.specs.declared.channel.Channel.{Channel}
@@ -13,7 +14,7 @@ use Rattle.irc_room.specs.After.{titled_by}
 use Rattle.irc_room.specs.Applying.{ServerRoom, respelling_fault}
 use Rattle.irc_room.specs.Effects.{has_channel}
 use Rattle.irc_room.specs.Lemmas.RespelledRooms.{respelled_is_well_formed}
-use Rattle.irc_room.specs.Lemmas.Rows.{alter_same, not_none}
+use Rattle.irc_room.specs.Lemmas.Rows.{alter_same}
 use Rattle.irc_stage.specs.Loops.Branching.{KnowsNothing}
 use Rattle.irc_stage.specs.declared.ways.Ways.{Ways}
 use Rattle.irc_stage.specs.declared.parts.ServerParts.{ServerParts}
@@ -24,7 +25,7 @@ use Rattle.irc_stage.proofs.ListsKept.{titled_so}
 none_respelled : (name : List ℕ) (found : Option Channel) (fault : RoomFault) → (if is_some found
     then None else Some NoSuchChannel) ≡ Some fault → option_map (respelled name) found ≡ found
 none_respelled name None fault is = refl
-none_respelled name (Some channel) fault is = not_none fault is
+none_respelled name (Some channel) fault is = absurd (none-some fault is)
 
 -- whichever way the room answers, it has the greater spelling
 pub room_respelled : {U : Type 0} (result : Result U RoomFault) (kept now : ServerRoom)

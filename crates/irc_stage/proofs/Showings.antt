@@ -7,11 +7,11 @@ use Rattle.std.specs.Option.{option_map_or}
 use Rattle.std.specs.FinMap.{get, remove, retain_keys, entries, entries_sorted, find, is_sorted}
 use Rattle.std.specs.FinMap.{get-entries}
 use Rattle.std.specs.FinMap.Entries.{below_all}
+use Rattle.std.proofs.Math.Facts.{and_yes}
+use Rattle.std.proofs.lemmas.Option.{same_Some}
 use Rattle.irc_names.specs.Fold.{key, same}
 use Rattle.irc_names.specs.Tables.{Table, row}
 use Rattle.irc_room.specs.Seen.{Showing}
-use Rattle.irc_room.specs.Lemmas.Rows.{same_some}
-use Rattle.irc_room.specs.Lemmas.ViewerLaws.{both_true}
 use Rattle.irc_stage.specs.declared.clients.Client.{Client}
 use Rattle.irc_stage.specs.declared.clients.Client.TheVariants.{Registering, Registered}
 use Rattle.irc_batch.specs.Batches.{Sent, end_of, line_to}
@@ -36,7 +36,7 @@ module _ (test : Client → Bool) (line : ℕ → Sent) where
       → find nat_cmp q es ≡ Some c → test c ≡ false) → filter_map chosen es ≡ []
   none_chosen [] rise fails = refl
   none_chosen (e ∷ es) rise fails =
-      let parts = both_true _ _ rise in
+      let parts = and_yes _ _ rise in
       ap (λ b. cons_option (if b then Some (line e.0) else None) (filter_map chosen es))
       (fails e.0 e.1 (here e es))
       ∙ none_chosen es parts.1 (λ q c is. fails q c (later e es q c parts.0 is))
@@ -47,11 +47,11 @@ module _ (test : Client → Bool) (line : ℕ → Sent) where
       → filter_map chosen es ≡ line conn ∷ []
   one_chosen [] rise conn mine found passes only = cc found
   one_chosen (e ∷ es) rise conn mine found passes only =
-      by (test e.1) refl (λ behind. one_chosen es (both_true _ _ rise).1 conn mine behind passes
-      (λ q c is. only q c (later e es q c (both_true _ _ rise).0 is)))
+      by (test e.1) refl (λ behind. one_chosen es (and_yes _ _ rise).1 conn mine behind passes
+      (λ q c is. only q c (later e es q c (and_yes _ _ rise).0 is)))
     where
       low : T (below_all nat_cmp e.0 es)
-      low = (both_true _ _ rise).0
+      low = (and_yes _ _ rise).0
 
       others_fail : e.0 ≡ conn → (q : ℕ) (c : Client) → find nat_cmp q es ≡ Some c → (b : Bool)
           → test c ≡ b → test c ≡ false
@@ -64,7 +64,7 @@ module _ (test : Client → Bool) (line : ℕ → Sent) where
       behind_it : (b : Bool) → same_number conn e.0 ≡ b → test e.1 ≡ false
           → find nat_cmp conn es ≡ Some mine
       behind_it true one fails =
-          let first : e.1 ≡ mine = same_some e.1 mine
+          let first : e.1 ≡ mine = same_Some e.1 mine
           (sym (ap (λ b. cond b (Some e.1) (find nat_cmp conn es)) one) ∙ found) in cc
       behind_it false two fails =
           sym (ap (λ b. cond b (Some e.1) (find nat_cmp conn es)) two) ∙ found
@@ -74,7 +74,7 @@ module _ (test : Client → Bool) (line : ℕ → Sent) where
       by true one rest =
           let at : e.0 ≡ conn = only e.0 e.1 (here e es) one in
           ap (λ t. cons_option (if t then Some (line e.0) else None) (filter_map chosen es)) one
-          ∙ ap (λ l. line e.0 ∷ l) (none_chosen es (both_true _ _ rise).1
+          ∙ ap (λ l. line e.0 ∷ l) (none_chosen es (and_yes _ _ rise).1
           (λ q c is. others_fail at q c is (test c) refl))
           ∙ ap (λ n. line n ∷ []) at
       by false two rest =
@@ -116,7 +116,7 @@ module _ (clients : Clients) (by_nick : Table ℕ) (index : IsIndex clients by_n
           → q ≡ conn
       by q (Registering pending) is passes = cc passes
       by q (Registered name) is passes =
-          same_some q conn (sym (index.found q name is)
+          same_Some q conn (sym (index.found q name is)
           ∙ ap (row by_nick) (key_by_same name showing.viewer passes) ∙ is_conn)
 
 -- the ends of those who are this user
@@ -144,7 +144,7 @@ module _ (clients : Clients) (by_nick : Table ℕ) (index : IsIndex clients by_n
       is_its : (q : ℕ) (c : Client) → get clients q ≡ Some c → is_client nick c ≡ true → q ≡ conn
       is_its q (Registering pending) is passes = cc passes
       is_its q (Registered name) is passes =
-          same_some q conn (sym (index.found q name is)
+          same_Some q conn (sym (index.found q name is)
           ∙ ap (row by_nick) (key_by_same name nick passes) ∙ is_conn)
 
   -- all clients but those
@@ -171,7 +171,7 @@ module _ (clients : Clients) (by_nick : Table ℕ) (index : IsIndex clients by_n
     where
       is_mine : (q : ℕ) (name : List ℕ) → get clients q ≡ Some (Registered name)
           → same name nick ≡ true → q ≡ conn
-      is_mine q name is passes = same_some q conn (sym (index.found q name is)
+      is_mine q name is passes = same_Some q conn (sym (index.found q name is)
           ∙ ap (row by_nick) (key_by_same name nick passes) ∙ is_conn)
 
       others : (q : ℕ) (o : Option Client) → get clients q ≡ o → same_number q conn ≡ false

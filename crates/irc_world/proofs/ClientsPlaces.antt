@@ -8,13 +8,13 @@ use Rattle.std.proofs.lemmas.Option.{slice_get_within}
 use Rattle.std.specs.Cmp.Lexicographic.{nat_list_cmp_total}
 use Rattle.std.specs.FinMap.{empty, keys, entries, len, insert, get-empty, len-empty, len-entries}
 use Rattle.std.specs.FinMap.{len-insert}
+use Rattle.std.proofs.lemmas.Option.{same_Some}
 use Rattle.irc_line.specs.Reading.{read_of}
 use Rattle.irc_names.specs.Tables.{fold_cmp, put}
 use Rattle.irc_relay.specs.Links.{Name, part}
 use Rattle.irc_relay.specs.Links.{linked as are_linked}
 use Rattle.irc_relay.specs.Lemmas.TellingNames.{same_when}
 use Rattle.irc_room.specs.Invitations.{HomeIsWellFormed}
-use Rattle.irc_room.specs.Lemmas.Rows.{same_some}
 use Rattle.irc_stage.specs.Handle.{ClientEvent, says, goes}
 use Rattle.irc_world.specs.World.{Setting, World, is_server, home_in, home_of, machine_at}
 use Rattle.irc_world.specs.Stepping.{connect, line, gone, link, cut}
@@ -48,7 +48,7 @@ clients_are_numbered_once settings world server client sound there =
       nowhere_else = λ other elsewhere.
           let other_home = sound.clients_home other client elsewhere in
           let one =
-          same_some at_home.home other_home.home (sym at_home.is_home ∙ other_home.is_home) in
+          same_Some at_home.home other_home.home (sym at_home.is_home ∙ other_home.is_home) in
           sym at_home.joined ∙ (ap (part world.links) one ∙ other_home.joined);
     }
 

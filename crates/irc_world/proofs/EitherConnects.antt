@@ -6,6 +6,7 @@ use Rattle.std.proofs.Math.Bool.{and_comm}
 use Rattle.std.specs.Option.{option_map_or}
 use Rattle.std.proofs.lemmas.List.{append-nil}
 use Rattle.std.specs.FinMap.{get}
+use Rattle.std.proofs.lemmas.Option.{same_Some}
 use Rattle.irc_relay.specs.Links.{Name, Link, part, joined, links_without, AreJoined, AreLinked}
 use Rattle.irc_relay.specs.Links.{IsLeft, IsMade, within, over, back}
 use Rattle.irc_relay.specs.Links.{linked as are_linked}
@@ -13,7 +14,6 @@ use Rattle.irc_relay.specs.Laws.{TestsTell, LinkBetweenParts, LinkTakenOut}
 use Rattle.irc_relay.specs.TurnedLinks.{AreTurned, TurnedAreTheSame, TakenOutEitherWay}
 use Rattle.irc_relay.specs.Lemmas.TellingNames.{Telling, alike, unlike, tell, same_when}
 use Rattle.irc_room.specs.Room.{Room}
-use Rattle.irc_room.specs.Lemmas.Rows.{same_some}
 use Rattle.irc_merge.specs.Laws.{MergeIsEven}
 use Rattle.irc_merge.specs.Merge.{merge}
 use Rattle.irc_stage.specs.declared.clients.Client.{Client}
@@ -116,7 +116,7 @@ module _ (between : LinkBetweenParts) (even : MergeIsEven) (settings : List Sett
   one_place client here behind =
       let near_home = sound.clients_home near client here in
       let far_home = sound.clients_home far client behind in
-      let one = same_some near_home.home far_home.home (sym near_home.is_home ∙ far_home.is_home) in
+      let one = same_Some near_home.home far_home.home (sym near_home.is_home ∙ far_home.is_home) in
       apart (sym near_home.joined ∙ (ap (part world.links) one ∙ far_home.joined))
 
   one_hall_of_both : merged (world.hall near) (world.hall far) ≡ merged (world.hall far)

@@ -6,8 +6,8 @@ use Rattle.std.proofs.Math.Path.{fun_ext}
 use Rattle.std.proofs.lemmas.List.Sums.{sum_by-cons}
 use Rattle.std.specs.Option.{option_map_or}
 use Rattle.std.specs.FinMap.{values}
+use Rattle.std.proofs.lemmas.Option.{same_Some}
 use Rattle.irc_names.specs.Tables.{tabulate}
-use Rattle.irc_room.specs.Lemmas.Rows.{same_some}
 use Rattle.irc_relay.specs.Links.{Name, same, Link, part, joined, distance, links_without, has_ends}
 use Rattle.irc_relay.specs.Links.{AreJoined, AreLinked, IsForest, IsLeft, IsMade, within, over}
 use Rattle.irc_relay.specs.Links.{back, still, parted, turned}
@@ -33,7 +33,7 @@ found_named (first ∷ settings) server own is =
     by : Telling first.name server → (setting_of settings server ≡ Some own → own.name ≡ server)
         → own.name ≡ server
     by (alike yes_so e) later =
-        let here = same_some first own
+        let here = same_Some first own
         (sym (ap (λ b. if b then Some first else setting_of settings server) yes_so) ∙ is) in
         ap (λ (s : Setting). s.name) (sym here) ∙ e
     by (unlike not_so _) later =

@@ -8,6 +8,7 @@ use Rattle.std.specs.List.{list_any, flat_map}
 use Rattle.std.specs.Option.{option_and_then}
 use Rattle.std.specs.FinMap.{values, keys, get-empty}
 use Rattle.std.specs.FinMap.Entries.{find, is_sorted}
+use Rattle.std.proofs.lemmas.Iterator.Adapters.{option_map_id}
 use Rattle.irc_names.specs.Fold.{key, same}
 use Rattle.irc_names.specs.Tables.{Table, fold_cmp, row, tabulate}
 use Rattle.irc_names.specs.TableLaws.{same_fold, one_fold, same_table, row-put}
@@ -22,7 +23,7 @@ use Rattle.irc_room.specs.After.{after}
 use Rattle.irc_room.specs.InTurn.{after_all}
 use Rattle.irc_room.specs.Seen.{share_channel, full_sender, line_from}
 use Rattle.irc_room.specs.Viewers.{shows_to}
-use Rattle.irc_room.specs.Lemmas.Listed.{map_itself, table_of, row_listed, entries_listed}
+use Rattle.irc_room.specs.Lemmas.Listed.{table_of, row_listed, entries_listed}
 use Rattle.irc_room.specs.Lemmas.ListedRooms.{ListedChannel, ListedRoom, channel_of, room_of}
 use Rattle.irc_room.specs.Lemmas.ListedRooms.{lists_member, member_listed, list_after, after_listed}
 use Rattle.irc_room.specs.Lemmas.ListedRooms.{all_listed}
@@ -272,7 +273,7 @@ servers_listed settings test rise =
     (table_of (λ u. u) (map server_entry servers))
     (λ q. side_row test (map (λ (s : Setting). s.name) settings) q
     ∙ sym (row_listed (λ u. u) (map server_entry servers) q
-    ∙ map_itself (find fold_cmp q (map server_entry servers)))))
+    ∙ option_map_id (find fold_cmp q (map server_entry servers)))))
     ∙ ap (map (λ (e : List ℕ × Unit {0}). e.0))
     (entries_listed (λ u. u) (map server_entry servers) rise)
     ∙ first_entries servers

@@ -8,6 +8,7 @@ use Rattle.std.specs.Cmp.{nat_cmp_total}
 use Rattle.std.specs.FinMap.{get, from_entries, retain_keys, values, get-empty, get-from_entries}
 use Rattle.std.specs.FinMap.Entries.{find, is_sorted}
 use Rattle.std.specs.Ordering.{nat_cmp}
+use Rattle.std.proofs.lemmas.Iterator.Adapters.{option_map_id}
 use Rattle.irc_names.specs.Fold.{fold, fold_table, key}
 use Rattle.irc_names.specs.Tables.{Table, fold_cmp, row, tabulate}
 use Rattle.irc_names.specs.TableLaws.{same_fold, one_fold, row-put, same_table, row-each}
@@ -25,7 +26,7 @@ use Rattle.irc_modes.specs.Modes.{no_modes}
 use Rattle.irc_room.specs.Examples.{room_after, somebody}
 use Rattle.irc_room.specs.Invitations.{is_at, inviting_only, of_home}
 use Rattle.irc_room.specs.Readers.{is_invited_at}
-use Rattle.irc_room.specs.Lemmas.Listed.{map_itself, table_of, row_listed, entries_listed}
+use Rattle.irc_room.specs.Lemmas.Listed.{table_of, row_listed, entries_listed}
 use Rattle.irc_room.specs.Lemmas.ListedRooms.{ListedRoom, ListedChannel, channel_of, room_of}
 use Rattle.irc_room.specs.Lemmas.ListedRooms.{no_list, all_listed}
 use Rattle.irc_room.specs.Lemmas.ListedSeen.{user_listed, channel_listed}
@@ -340,7 +341,7 @@ known_listed known servers rise =
     (table_of (λ k. k) (filter_map (known_entry known) servers)) (λ q.
     known_row known servers q
     ∙ sym (row_listed (λ k. k) (filter_map (known_entry known) servers) q
-    ∙ map_itself (find fold_cmp q (filter_map (known_entry known) servers)))))
+    ∙ option_map_id (find fold_cmp q (filter_map (known_entry known) servers)))))
     ∙ ap (map (λ (e : List ℕ × KnownServer). e.1))
     (entries_listed (λ k. k) (filter_map (known_entry known) servers) rise)
     ∙ second_entries (filter_map (known_entry known) servers)

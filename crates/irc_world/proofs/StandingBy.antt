@@ -4,9 +4,9 @@ use Rattle.std.proofs.Common.{[], ◌∷◌, ◌++◌, ◌⊎◌, inl, inr, leng
 use Rattle.std.proofs.Common.{is_some}
 use Rattle.std.specs.Option.{option_and_then, option_map_or}
 use Rattle.std.specs.FinMap.{get}
+use Rattle.std.proofs.lemmas.Option.{same_Some}
 use Rattle.irc_line.specs.Reading.{read_of}
 use Rattle.irc_room.specs.Room.{Room}
-use Rattle.irc_room.specs.Lemmas.Rows.{same_some}
 use Rattle.irc_relay.specs.Links.{Name, Link, part, joined, links_without, AreJoined, IsLeft}
 use Rattle.irc_relay.specs.Links.{within, over, back}
 use Rattle.irc_relay.specs.Laws.{TestsTell, LinksJoin, LinkBetweenParts, LinkTakenOut}
@@ -42,7 +42,7 @@ module _ (settings : List Setting) (world : World) (sound : IsSound settings wor
       → get (world.hall server).clients client ≡ Some one → AreJoined world.links home server
   at_home server home client one is there =
       let found = sound.clients_home server client (ap is_some there) in
-      ap (part world.links) (same_some home found.home (sym is ∙ found.is_home)) ∙ found.joined
+      ap (part world.links) (same_Some home found.home (sym is ∙ found.is_home)) ∙ found.joined
 
   seen_at_home : (server home : Name) (client : ℕ) (one : Client)
       → home_of world client ≡ Some home → get (world.hall server).clients client ≡ Some one

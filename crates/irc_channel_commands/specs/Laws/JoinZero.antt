@@ -9,6 +9,7 @@ use Rattle.std.specs.Option.{option_and_then}
 use Rattle.std.specs.List.{AllByRecursion}
 use Rattle.std.specs.FinMap.{entries, entries_sorted, is_sorted, find, get-entries}
 use Rattle.std.specs.FinMap.Entries.{below_all}
+use Rattle.std.proofs.Math.Facts.{and_yes}
 use Rattle.irc_names.specs.Fold.{key}
 use Rattle.irc_names.specs.Tables.{fold_cmp, row}
 use Rattle.irc_names.specs.TableLaws.{same_fold, same_fold-refl, one_fold, row-alter_other}
@@ -19,7 +20,6 @@ use Rattle.irc_channels.specs.Texts.{cut_words}
 use Rattle.irc_room.specs.effect.Effect.TheVariants.{Part}
 use Rattle.irc_room.specs.Room.{Room, IsWellFormed}
 use Rattle.irc_room.specs.After.{after}
-use Rattle.irc_room.specs.Lemmas.ViewerLaws.{both_true}
 use Rattle.irc_acts.specs.ByTest.{by_test}
 use Rattle.irc_acts.specs.Moves.{own_channels}
 use Rattle.irc_acts.specs.Own.{parts, AreOwn}
@@ -45,7 +45,7 @@ none_below : (q : List ℕ) (es : List (List ℕ × Channel)) → T (below_all f
     → find fold_cmp q es ≡ None
 none_below q [] below = refl
 none_below q (e ∷ es) below =
-    let parts = both_true _ _ below in
+    let parts = and_yes _ _ below in
     ap (λ b. cond b (Some e.1) (find fold_cmp q es)) (less_apart (fold_cmp q e.0) parts.0)
     ∙ none_below q es parts.1
 
@@ -62,7 +62,7 @@ still_stand : (room : Room) (me : User) (first : List ℕ × Channel)
 unfolding after
 still_stand room me first [] named below all = tt
 still_stand room me first (e ∷ es) named below all =
-    let parts = both_true _ _ below in
+    let parts = and_yes _ _ below in
     let apart : same_fold e.0 (key first.1.name) ≡ false =
     ap (same_fold e.0) named ∙ above_apart first.0 e.0 parts.0 in (
       record {
@@ -78,7 +78,7 @@ leaving_rows : (room : Room) (me : User) (es : List (List ℕ × Channel))
     → AreOwn me room (map (leaves me) (filter (has_member (key me.nick)) (map (λ e. e.1) es)))
 leaving_rows room me [] rise all = tt
 leaving_rows room me (e ∷ es) rise all =
-    let parted = both_true _ _ rise in
+    let parted = and_yes _ _ rise in
     let rest = filter (has_member (key me.nick)) (map (λ (x : List ℕ × Channel). x.1) es) in
     let now = after room (Part me.nick e.1.name (cut_words me.nick)) in
     by_test (λ (channels : List Channel). AreOwn me room (map (leaves me) channels))
@@ -96,7 +96,7 @@ all_stand : (room : Room) (es : List (List ℕ × Channel)) → T (is_sorted fol
     → StandsIn room (q, channel)) → AllByRecursion (StandsIn room) es
 all_stand room [] rise found = tt
 all_stand room (e ∷ es) rise found =
-    let parts = both_true _ _ rise in (
+    let parts = and_yes _ _ rise in (
       found e.0 e.1 (ap (λ b. cond b (Some e.1) (find fold_cmp e.0 es)) (same_fold-refl e.0)),
       all_stand room es parts.1
           (λ q channel is. found q channel (later q channel parts.0 is (same_fold q e.0) refl)),

@@ -4,9 +4,9 @@ use Rattle.std.proofs.Common.{List, refl, sym, ◌∙◌, ap, subst, option_map}
 use Rattle.std.proofs.lemmas.Bool.{eqb-true, eq-eqb}
 use Rattle.std.specs.List.{list_any}
 use Rattle.std.specs.Option.{option_and_then}
+use Rattle.std.proofs.lemmas.Option.{same_Some}
 use Rattle.irc_names.specs.Tables.{row, each, tabulate}
 use Rattle.irc_names.specs.TableLaws.{row-each, row-tabulate, same_fold}
-use Rattle.irc_room.specs.Lemmas.Rows.{same_some}
 use Rattle.irc_relay.specs.Distances.{EndsAreAmong, IsAmong}
 use Rattle.irc_relay.specs.Links.{Name, same, Link, joined, links_without, toward, AreJoined}
 use Rattle.irc_relay.specs.Links.{AreLinked, HasSides, IsForest, IsLeft}
@@ -52,7 +52,7 @@ module _ (s : ItemSetting) (links : List Link) (routes : Name → Known) (t : Na
       by : (b : Bool) → Telling x t → joined links x t ≡ b → Some (shape r)
           ≡ cond (joined links x t && not (same x t)) (Some (due x)) None → RowSays s links t x r
       by true (unlike z two) so says = record {
-        shape = same_some (shape r) (due x)
+        shape = same_Some (shape r) (due x)
             (says ∙ (λ i. cond (so i && not (z i)) (Some (due x)) None));
         joined = joined_so links x t so;
         apart = two;
@@ -71,7 +71,7 @@ module _ (s : ItemSetting) (links : List Link) (routes : Name → Known) (t : Na
       by : (o : Option ServerRow) → row_of (routes t) x ≡ o → option_map shape o ≡ Some (due x)
           → RowIsThere s (routes t) links t x
       by None is says = absurd (cc says)
-      by (Some r) is says = record { r = r; is = is; shape = same_some (shape r) (due x) says }
+      by (Some r) is says = record { r = r; is = is; shape = same_Some (shape r) (due x) says }
 
 -- a server of that side is behind the link, and is no other
 module _ (s : ItemSetting) (links : List Link) (routes : Name → Known) (t u : Name)

@@ -9,13 +9,13 @@ use Rattle.std.specs.FinMap.{entries, entries_sorted, find, get, get-entries, is
 use Rattle.std.specs.FinMap.Entries.{below_all}
 use Rattle.std.specs.List.{cons_option, flat_map}
 use Rattle.std.specs.Ordering.{nat_cmp}
+use Rattle.std.proofs.Math.Facts.{and_yes}
 use Rattle.irc_names.specs.Fold.{key, same}
 use Rattle.irc_batch.specs.Batches.{Sent, line_to}
 use Rattle.irc_room.specs.effect.Effect.{Effect}
 use Rattle.irc_room.specs.Room.{Room, IsWellFormed}
 use Rattle.irc_room.specs.Seen.{Showing, seen}
 use Rattle.irc_room.specs.Viewers.{shows_to}
-use Rattle.irc_room.specs.Lemmas.ViewerLaws.{both_true}
 use Rattle.irc_room.specs.Lemmas.OneViewer.{one_viewers_lines}
 use Rattle.irc_stage.specs.declared.clients.Client.{Client}
 use Rattle.irc_stage.specs.declared.clients.Client.TheVariants.{Registering, Registered}
@@ -50,13 +50,13 @@ module _ (who : ℕ) where
       → lines_to who (filter_map (chosen showing) es) ≡ told_line showing (find nat_cmp who es)
   of_entries showing [] rise = refl
   of_entries showing (e ∷ es) rise =
-      by_number (same_number who e.0) refl (of_entries showing es (both_true _ _ rise).1)
+      by_number (same_number who e.0) refl (of_entries showing es (and_yes _ _ rise).1)
     where
       rest : List Sent
       rest = filter_map (chosen showing) es
 
       low : T (below_all nat_cmp e.0 es)
-      low = (both_true _ _ rise).0
+      low = (and_yes _ _ rise).0
 
       first : (b : Bool) → nat_eq e.0 who ≡ true → lines_to who rest ≡ []
           → lines_to who (cons_option (if b then Some (line_to e.0 showing.line) else None) rest)

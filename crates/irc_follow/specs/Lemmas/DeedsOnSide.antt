@@ -5,6 +5,8 @@ use Rattle.std.specs.Cmp.Lexicographic.{bytes_decides}
 use Rattle.std.specs.FinMap.{get}
 use Rattle.std.specs.List.{AllByRecursion}
 use Rattle.std.specs.Option.{option_and_then, option_map_or}
+use Rattle.std.proofs.lemmas.Option.{same_Some}
+use Rattle.irc_names.specs.Lemmas.PlainFacts.{is_some-map}
 use Rattle.irc_names.specs.Fold.{key}
 use Rattle.irc_names.specs.Tables.{row}
 use Rattle.irc_users.specs.declared.user.User.{User}
@@ -20,7 +22,6 @@ use Rattle.irc_room.specs.Limits.{IsWithinLimits, KeepsLimits}
 use Rattle.irc_room.specs.Readers.{home_under}
 use Rattle.irc_room.specs.Room.{Room, IsWellFormed}
 use Rattle.irc_room.specs.Effects.{has_user}
-use Rattle.irc_room.specs.Lemmas.Rows.{is_some_map, same_some}
 use Rattle.irc_room.specs.Lemmas.WellFormedLaw.{after_is_well_formed}
 use Rattle.irc_room.specs.Lemmas.LimitsKept.{after_is_within_limits}
 use Rattle.irc_room.specs.Lemmas.RespelledRooms.{respelled_is_well_formed}
@@ -124,7 +125,7 @@ module _ (s : ItemSetting) (w : of_side.SideState) (sound : IsSoundSide s w) (se
   pub there_to_kill : (nick : List ℕ) → IsDoableKill s w server nick
       → has_user w.hall.room nick ≡ true
   there_to_kill nick doable =
-      sym (is_some_map (λ (user : User). user.nick) (row w.hall.room.users (key nick)))
+      sym (is_some-map (λ (user : User). user.nick) (row w.hall.room.users (key nick)))
       ∙ ap is_some doable.stored
 
   pub kills_keeps : (nick : List ℕ) → IsDoableKill s w server nick
@@ -166,7 +167,7 @@ module _ (s : ItemSetting) (w : of_side.SideState) (sound : IsSoundSide s w) (se
             on true one left = cc left
             on false two left =
                 ap (λ (u : User). w.tree.knows u.home && not (same u.home name))
-                (sym (same_some old user left))
+                (sym (same_Some old user left))
                 ∙ ap (λ b. b && not (same old.home name)) (sound.at_known fold old there)
                 ∙ ap not two
 
@@ -202,7 +203,7 @@ module _ (s : ItemSetting) (w : of_side.SideState) (sound : IsSoundSide s w) (se
                 apart : (b : Bool) → same user.home name ≡ b → b ≡ false
                 apart false two = refl
                 apart true one =
-                    let home_is = same_some user.home old.home home in
+                    let home_is = same_Some user.home old.home home in
                     absurd (cc (sym away ∙ ap (λ o. option_map_or (same name) o false) old.of_client
                     ∙ ap (same name) (sym home_is ∙ (bytes_decides user.home name).0 one)
                     ∙ same_when name name refl))

@@ -4,6 +4,7 @@ use Rattle.std.proofs.Common.{sym, ◌∙◌, ap, option_map, List, if◌then◌
 use Rattle.std.specs.Cmp.Lexicographic.{bytes_decides}
 use Rattle.std.specs.FinMap.{get, retain_keys}
 use Rattle.std.specs.Option.{option_and_then, option_map_or}
+use Rattle.std.proofs.lemmas.Option.{same_Some}
 use Rattle.irc_names.specs.Fold.{key, same}
 use Rattle.irc_names.specs.TableLaws.{same_fold, same_fold-refl, one_fold}
 use Rattle.irc_room.specs.effect.Effect.{Effect}
@@ -12,7 +13,6 @@ use Rattle.irc_room.specs.After.{after}
 use Rattle.irc_room.specs.Effects.{IsPossible}
 use Rattle.irc_room.specs.Limits.{KeepsLimits}
 use Rattle.irc_room.specs.Readers.{home_under}
-use Rattle.irc_room.specs.Lemmas.Rows.{same_some}
 use Rattle.irc_room.specs.Lemmas.WellFormedLaw.{after_is_well_formed}
 use Rattle.irc_room.specs.Lemmas.LimitsKept.{after_is_within_limits, sent_keeps_limits}
 use Rattle.irc_stage.specs.declared.clients.Client.{Client}
@@ -72,14 +72,14 @@ module _ (clients : Clients) (client : ℕ) (fold_now : List ℕ) where
         fold = key name;
         was = ap (option_and_then fold_of) there;
         moved = ap (λ c. if c then key new else key name) (same_folds name nick ∙ one)
-            ∙ same_some (key new) fold_now now;
+            ∙ same_Some (key new) fold_now now;
         stays = refl;
       }
       by_name name there false two now = record {
         fold = key name;
         was = ap (option_and_then fold_of) there;
         moved = ap (λ c. if c then key new else key name) (same_folds name nick ∙ two)
-            ∙ same_some (key name) fold_now now;
+            ∙ same_Some (key name) fold_now now;
         stays = refl;
       }
 
@@ -104,7 +104,7 @@ module _ (clients : Clients) (client : ℕ) (fold_now : List ℕ) where
       by_name name there false two now = record {
         fold = key name;
         was = ap (option_and_then fold_of) there;
-        moved = same_some (key name) fold_now now;
+        moved = same_Some (key name) fold_now now;
         stays = same_folds name nick ∙ two;
       }
 

@@ -9,6 +9,8 @@ use Rattle.std.specs.Cmp.Lexicographic.{bytes_decides, pointwise}
 use Rattle.std.specs.List.{find, list_all, list_any}
 use Rattle.std.specs.Option.{option_map_or, IfSome}
 use Rattle.std.proofs.Math.Bool.{or-true}
+use Rattle.std.proofs.lemmas.Option.{same_Some}
+use Rattle.irc_names.specs.Lemmas.PlainFacts.{is_some-map}
 use Rattle.irc_line.specs.Messages.{message_of}
 use Rattle.irc_names.specs.Fold.{key}
 use Rattle.irc_names.specs.Tables.{row}
@@ -23,7 +25,6 @@ use Rattle.irc_room.specs.Readers.{home_under}
 use Rattle.irc_room.specs.Room.{Room}
 use Rattle.irc_room.specs.Seen.{stored_nick}
 use Rattle.irc_room.specs.Sendable.{IsSendable}
-use Rattle.irc_room.specs.Lemmas.Rows.{is_some_map, same_some}
 use Rattle.irc_room.specs.Lemmas.AlikeLaw.{home_is_alike}
 use Rattle.irc_room.specs.Lemmas.SendingAlike.{alike_keep_limits, alike_send_alike}
 use Rattle.irc_relay.specs.Distances.{IsAmong}
@@ -61,7 +62,7 @@ doer_there has (AddUser user) nick is there = absurd (cc is)
 doer_there has (ChangeModes by.Home channel changes) nick is there = absurd (cc is)
 doer_there has (SetTopic by.Home channel text) nick is there = absurd (cc is)
 doer_there has other nick is there =
-    subst (λ n. has n ≡ true) (same_some _ nick is) (and_parts _ _ there).0
+    subst (λ n. has n ≡ true) (same_Some _ nick is) (and_parts _ _ there).0
 
 -- its line is from the doer
 from_doer : (room : Room) (known : Known) (effect : Effect) → IsSendable room effect
@@ -80,7 +81,7 @@ found_one p (y ∷ xs) x is = by (p y) refl is (found_one p xs x)
   where
     by : (b : Bool) → p y ≡ b → cond b (Some y) (find p xs) ≡ Some x
         → (find p xs ≡ Some x → p x ≡ true) → p x ≡ true
-    by true passes found rest = ap p (sym (same_some y x found)) ∙ passes
+    by true passes found rest = ap p (sym (same_Some y x found)) ∙ passes
     by false fails found rest = rest found
 
 passes_in : {X : Type 0} (p q : X → Bool) (xs : List X) (x : X) → find p xs ≡ Some x → q x ≡ true
@@ -90,7 +91,7 @@ passes_in p q (y ∷ xs) x is so = by (p y) is (λ later. passes_in p q xs x lat
   where
     by : (b : Bool) → cond b (Some y) (find p xs) ≡ Some x
         → (find p xs ≡ Some x → list_any q xs ≡ true) → (q y || list_any q xs) ≡ true
-    by true found rest = ap (λ b. b || list_any q xs) (ap q (same_some y x found) ∙ so)
+    by true found rest = ap (λ b. b || list_any q xs) (ap q (same_Some y x found) ∙ so)
     by false found rest = ap (λ b. q y || b) (rest found) ∙ or-true (q y)
 
 none_any : {X : Type 0} (p : X → Bool) (xs : List X) → find p xs ≡ None → list_any p xs ≡ false
@@ -191,10 +192,10 @@ module _ (s : ItemSetting) (w : of_side.SideState) (sound : IsSoundSide s w) whe
       by : (b : Bool) (o : Option ServerRow) → row_of (w.tree.routes x) home ≡ o
           → (if b then Some 1 else option_map (λ (r : ServerRow). r.ours) o) ≡ Some k
           → (1 ≤ k) × (k ≤ max_servers)
-      by true o there one = let e = same_some 1 k one in (omega arith, omega arith)
+      by true o there one = let e = same_Some 1 k one in (omega arith, omega arith)
       by false None there none = cc none
       by false (Some r) there some =
-          let e = same_some r.ours k some in
+          let e = same_Some r.ours k some in
           let low = sound.tree.low x home r here there in
           let two = ((sound.tree.numbered x (among x here)).rows home r there).ours in
           (omega arith, omega arith)
@@ -237,7 +238,7 @@ module _ (s : ItemSetting) (fixed : IsItemSetting s) (t u : Name) (w : of_side.S
   all_known [] = refl
   all_known (nick ∷ nicks) =
       ap (λ b. b && list_all (λ n. is_some (home_under other.room (key n))) nicks)
-      (is_some_map (λ (user : User). user.home) (row other.room.users (key nick)))
+      (is_some-map (λ (user : User). user.home) (row other.room.users (key nick)))
       ∙ ap (λ b. has_user other.room nick && b) (all_known nicks)
 
   module _ (effect : Effect) (doable : IsDoableEffect s w effect) where
@@ -340,7 +341,7 @@ module _ (s : ItemSetting) (fixed : IsItemSetting s) (t u : Name) (w : of_side.S
         by (Some r) is some = record {
           row = r;
           there = is;
-          link = same_some r.link (index_in s.names (toward w.tree.forest u home))
+          link = same_Some r.link (index_in s.names (toward w.tree.forest u home))
               (ap (option_map (λ (x : Shape). x.link)) some)
               ∙ ap (index_in s.names) (far u t reader.here takes);
         }

@@ -12,12 +12,12 @@ use Rattle.std.specs.List.{cons_option, flat_map, list_any}
 use Rattle.std.specs.Option.{option_map_or}
 use Rattle.std.specs.Ordering.{nat_cmp}
 use Rattle.std.proofs.Math.Seq.{take-append_seam}
+use Rattle.std.proofs.Math.Facts.{and_yes}
 use Rattle.irc_names.specs.Lemmas.PlainFacts.{is_true}
 use Rattle.irc_batch.specs.Batches.{Sent}
 use Rattle.irc_line.specs.Messages.{Written, line_text, text}
 use Rattle.irc_room.specs.effect.Effect.{Effect}
 use Rattle.irc_room.specs.Seen.{Showing}
-use Rattle.irc_room.specs.Lemmas.ViewerLaws.{both_true}
 use Rattle.irc_tables.specs.Lemmas.OrderedEntries.{above-is, find-above}
 use Rattle.irc_stage.specs.Ends.{Ends, is_met}
 use Rattle.irc_stage.specs.Ways.{but, met_links}
@@ -124,7 +124,7 @@ module _ (k : ℕ) where
         ≡ (if option_map_or test (find nat_cmp k es) false then k ∷ [] else [])
     chosen_number [] rise = refl
     chosen_number (e ∷ es) rise =
-        by (test e.1) refl (same_number k e.0) refl (chosen_number es (both_true _ _ rise).1)
+        by (test e.1) refl (same_number k e.0) refl (chosen_number es (and_yes _ _ rise).1)
       where
         answer : Option X → List ℕ
         answer o = if option_map_or test o false then k ∷ [] else []
@@ -140,7 +140,7 @@ module _ (k : ℕ) where
             ap (λ b. cond b (e.0 ∷ filter is_it (passing es)) (filter is_it (passing es)))
             (sym (one_test e.0) ∙ one)
             ∙ ap (λ l. e.0 ∷ l) (rest ∙ ap (λ o. if option_map_or test o false then k ∷ [] else [])
-            (ap (λ n. find nat_cmp n es) is ∙ none_behind e es (both_true _ _ rise).0))
+            (ap (λ n. find nat_cmp n es) is ∙ none_behind e es (and_yes _ _ rise).0))
             ∙ ap (λ n. n ∷ []) (sym is)
             ∙ sym (ap (λ b. if b then k ∷ [] else []) passes)
         by true passes false two rest =
@@ -150,7 +150,7 @@ module _ (k : ℕ) where
             rest
             ∙ ap (λ o. if option_map_or test o false then k ∷ [] else [])
             (ap (λ n. find nat_cmp n es) (one_number k e.0 one)
-            ∙ none_behind e es (both_true _ _ rise).0)
+            ∙ none_behind e es (and_yes _ _ rise).0)
             ∙ sym (ap (λ b. if b then k ∷ [] else []) fails)
         by false fails false two rest = rest
 

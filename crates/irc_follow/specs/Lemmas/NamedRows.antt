@@ -4,12 +4,12 @@ use Rattle.std.proofs.Common.{None, List, [], ◌∷◌, map, filter, refl, sym,
 use Rattle.std.specs.FinMap.{entries, keys, values}
 use Rattle.std.specs.List.{list_any}
 use Rattle.std.specs.Option.{option_and_then}
+use Rattle.std.proofs.lemmas.Option.{same_Some}
 use Rattle.irc_names.specs.Tables.{Table, row, each}
 use Rattle.irc_names.specs.TableLaws.{changed_entry, entries-each, one_fold, row-each, same_fold}
 use Rattle.irc_names.specs.TableLaws.{same_fold-refl, same_table}
 use Rattle.irc_relay.specs.Links.{Name}
 use Rattle.irc_relay.specs.Lemmas.TellingNames.{Telling, alike, unlike, tell}
-use Rattle.irc_room.specs.Lemmas.Rows.{same_some}
 use Rattle.irc_routes.specs.Lemmas.TableRows.{values_each}
 use Rattle.irc_routes.specs.Lemmas.RouteLaws.{entries_named}
 use Rattle.irc_world.specs.World.{Setting, is_server, setting_of}
@@ -40,7 +40,7 @@ module _ {X : Type 0} (name : X → List ℕ) where
     where
       by_test : (y : X) (b : Bool) → row table q ≡ Some y → cond b (Some y) None ≡ Some x
           → name x ≡ q
-      by_test y true is one = ap name (sym (same_some y x one)) ∙ named q y is
+      by_test y true is one = ap name (sym (same_Some y x one)) ∙ named q y is
       by_test y false is one = absurd (cc one)
 
       by : (o : Option X) → row table q ≡ o → option_and_then (if_passes p) o ≡ Some x → name x ≡ q

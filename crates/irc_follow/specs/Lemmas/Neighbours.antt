@@ -7,13 +7,13 @@ use Rattle.std.proofs.Common.{is_some, if◌then◌else◌}
 use Rattle.std.proofs.lemmas.Bool.{eqb-true, eq-eqb}
 use Rattle.std.specs.FinMap.{get}
 use Rattle.std.specs.Option.{option_map_or}
+use Rattle.std.proofs.lemmas.Option.{same_Some}
 use Rattle.irc_line.specs.Carried.{AreCarriedParts}
 use Rattle.irc_line.specs.Laws.{IsReadSoAlone, WrittenIsLine, WrittenIsRead}
 use Rattle.irc_line.specs.Messages.{IsPlain, Written, line_text, message_of}
 use Rattle.irc_line.specs.Reading.{read_of}
 use Rattle.irc_names.specs.Names.{is_nick, is_server}
 use Rattle.irc_room.specs.Laws.{IsWhole, NamesAreLineWords}
-use Rattle.irc_room.specs.Lemmas.Rows.{same_some}
 use Rattle.irc_stage.specs.Ends.{End, Ends, is_met}
 use Rattle.irc_stage.specs.Ways.{but, met_links}
 use Rattle.irc_link_reader.specs.Reader.{Reader, reader_of, is_behind_link, may_come}
@@ -65,7 +65,7 @@ met_end view k far is = by (get view.ends k) refl is
         → HasEnd view k far
     by None there none = cc none
     by (Some end) there some =
-        record { end = end; there = there; named = same_some end.far (Some far) some }
+        record { end = end; there = there; named = same_Some end.far (Some far) some }
 
 pub but_none : (links : List ℕ) → but None links ≡ links
 but_none [] = refl

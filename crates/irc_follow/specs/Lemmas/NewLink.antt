@@ -2,6 +2,7 @@
 use Rattle.std.proofs.Common.{◌≡◌, ◌≢◌, ℕ, inl, inr, Bool, true, false, not, ◌&&◌, Some, None, List}
 use Rattle.std.proofs.Common.{◌∷◌, refl, sym, ◌∙◌, ap, subst, arith, if◌then◌else◌}
 use Rattle.std.specs.Option.{option_map}
+use Rattle.std.proofs.lemmas.Option.{same_Some}
 use Rattle.irc_relay.specs.Distances.{IsAmong}
 use Rattle.irc_relay.specs.Links.{Name, same, Link, part, toward, distance, AreJoined, AreLinked}
 use Rattle.irc_relay.specs.Links.{IsForest, IsKept, IsMade, IsNextHop}
@@ -9,7 +10,6 @@ use Rattle.irc_relay.specs.Relay.{streams_from, Covers, TakesFrom}
 use Rattle.irc_relay.specs.Lemmas.TellingNames.{same_when}
 use Rattle.irc_relay.specs.Lemmas.NextHops.{distance_self, next_hop}
 use Rattle.irc_relay.specs.Lemmas.LinkTakenOut.{made}
-use Rattle.irc_room.specs.Lemmas.Rows.{same_some}
 use Rattle.irc_routes.specs.declared.server_row.ServerRow.{ServerRow}
 use Rattle.irc_routes.specs.Known.{row_of, token_out}
 use Rattle.irc_follow.specs.Tree.{Tree, Shape, index_in, shape, shape_in, IsSoundTree}
@@ -116,7 +116,7 @@ module _ (names : List Name) (info : Name → List ℕ) (tree : Tree) (l : Link)
               (λ e. cc (sym it ∙ same_when x u (sym e)))
 
           shaped : shape r ≡ shape_in names info tree.forest u x
-          shaped = same_some (shape r) (shape_in names info tree.forest u x)
+          shaped = same_Some (shape r) (shape_in names info tree.forest u x)
               (is ∙ ap (λ b. if b && not (same x u) then Some (shape_in names info tree.forest u x)
               else None) known
               ∙ ap (λ c. if true && not c then Some (shape_in names info tree.forest u x)

@@ -7,6 +7,7 @@ use Rattle.std.specs.FinMap.{get, retain_keys}
 use Rattle.std.specs.List.{list_all}
 use Rattle.std.specs.Option.{option_and_then, option_map_or}
 use Rattle.std.specs.Cmp.{first_so, second_so}
+use Rattle.irc_names.specs.Lemmas.PlainFacts.{is_some-map}
 use Rattle.irc_line.specs.Reading.{read_of}
 use Rattle.irc_names.specs.Fold.{key}
 use Rattle.irc_names.specs.Fold as folded
@@ -24,7 +25,6 @@ use Rattle.irc_room.specs.Invitations.{after_at, is_at, of_home}
 use Rattle.irc_room.specs.OtherInvitations.{AreAlike, IsTakenAlike}
 use Rattle.irc_room.specs.Readers.{home_under}
 use Rattle.irc_room.specs.Room.{Room}
-use Rattle.irc_room.specs.Lemmas.Rows.{is_some_map}
 use Rattle.irc_room.specs.Lemmas.AlikeLaw.{alike_take_alike, home_is_alike}
 use Rattle.irc_room.specs.Lemmas.HomeLaw.{home_follows}
 use Rattle.irc_merge.specs.Deeds.{does}
@@ -138,8 +138,8 @@ module _ (s : ItemSetting) (p t : Name) (w : of_side.SideState) (view : View)
       → is_some (next_hop view.routes user.home) ≡ not (is_home t user)
   known_away fold user there =
       ap (λ known. is_some (next_hop known user.home)) fits.routes
-      ∙ is_some_map (λ (r : ServerRow). r.link) (row_of (w.tree.routes t) user.home)
-      ∙ sym (is_some_map shape (row_of (w.tree.routes t) user.home))
+      ∙ is_some-map (λ (r : ServerRow). r.link) (row_of (w.tree.routes t) user.home)
+      ∙ sym (is_some-map shape (row_of (w.tree.routes t) user.home))
       ∙ ap is_some (sound.tree.rows t user.home fits.here)
       ∙ ap (λ b. is_some (if b && not (same user.home t) then Some
       (shape_in s.names (info_in s.settings) w.tree.forest t user.home) else None))

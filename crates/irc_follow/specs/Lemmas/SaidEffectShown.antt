@@ -9,6 +9,7 @@ use Rattle.std.specs.FinMap.{get}
 use Rattle.std.specs.List.{flat_map, list_all}
 use Rattle.std.specs.Option.{option_and_then, option_map_or}
 use Rattle.std.proofs.lemmas.Bool.{not-true}
+use Rattle.std.proofs.lemmas.Option.{same_Some}
 use Rattle.irc_line.specs.Messages.{Written}
 use Rattle.irc_names.specs.Fold.{key, same}
 use Rattle.irc_names.specs.Tables.{row}
@@ -26,7 +27,6 @@ use Rattle.irc_room.specs.Readers.{home_under}
 use Rattle.irc_room.specs.Room.{Room, IsWellFormed}
 use Rattle.irc_room.specs.Seen.{seen, shown_line}
 use Rattle.irc_room.specs.Viewers.{line_for, shows_to}
-use Rattle.irc_room.specs.Lemmas.Rows.{same_some}
 use Rattle.irc_room.specs.Lemmas.WellFormedLaw.{after_is_well_formed}
 use Rattle.irc_room.specs.Lemmas.AlikeLaw.{alike_stay_alike, alike_take_alike}
 use Rattle.irc_room.specs.Lemmas.HomeRooms.{home_is_well_formed}
@@ -188,7 +188,7 @@ module _ (s : ItemSetting) (p t : Name) (w : of_side.SideState) (view : View)
         on None there is = refl
         on (Some user) there is =
             ap (λ b. if b then shown_line w.hall.room (Invite by nick channel) user else None)
-            (on_user user there (same_some user.home t is) (same nick user.nick) refl)
+            (on_user user there (same_Some user.home t is) (same nick user.nick) refl)
 
     none_shown : (client : Option Client) → get w.hall.clients who ≡ client
         → client_shown who w.hall.room (Invite by nick channel) client ≡ []

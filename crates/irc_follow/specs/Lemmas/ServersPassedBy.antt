@@ -10,6 +10,7 @@ use Rattle.std.specs.List.{cons_option, list_all, list_any, AllByRecursion}
 use Rattle.std.specs.Option.{option_and_then, option_map_or}
 use Rattle.std.proofs.Math.Bool.{and-false}
 use Rattle.std.specs.Cmp.{first_so}
+use Rattle.std.proofs.lemmas.Option.{same_Some}
 use Rattle.irc_names.specs.Fold.{key}
 use Rattle.irc_names.specs.Fold as folded
 use Rattle.irc_names.specs.Tables.{row}
@@ -26,7 +27,6 @@ use Rattle.irc_room.specs.Readers.{home_under, nicks_in}
 use Rattle.irc_room.specs.Room.{Room}
 use Rattle.irc_room.specs.Seen.{sees, shown_line}
 use Rattle.irc_room.specs.Viewers.{line_for, shows_to}
-use Rattle.irc_room.specs.Lemmas.Rows.{same_some}
 use Rattle.irc_room.specs.Lemmas.HomeLaw.{home_follows}
 use Rattle.irc_stage.specs.Ways.{homes_in, homes_of, told_homes}
 use Rattle.irc_merge.specs.Deeds.{does, gains, shown_by}
@@ -130,13 +130,13 @@ pub told_known : (room : Room) (test : List ℕ → Bool)
     → (effect : Effect) (homes : List (List ℕ)) → told_homes room effect ≡ Some homes
     → AllByRecursion (λ home. test home ≡ true) homes
 told_known room test all (Say by notice (target.Channel channel) text) homes is =
-    subst (AllByRecursion (λ home. test home ≡ true)) (same_some (homes_in room channel) homes is)
+    subst (AllByRecursion (λ home. test home ≡ true)) (same_Some (homes_in room channel) homes is)
     (homes_pass room test all (nicks_in room channel))
 told_known room test all (Say by notice (target.User nick) text) homes is =
-    subst (AllByRecursion (λ home. test home ≡ true)) (same_some
+    subst (AllByRecursion (λ home. test home ≡ true)) (same_Some
     (option_to_list (home_under room (key nick))) homes is) (one_passes room test all nick)
 told_known room test all (Invite by nick channel) homes is =
-    subst (AllByRecursion (λ home. test home ≡ true)) (same_some
+    subst (AllByRecursion (λ home. test home ≡ true)) (same_Some
     (option_to_list (home_under room (key nick))) homes is) (one_passes room test all nick)
 told_known room test all effect homes is = cc is
 
@@ -175,7 +175,7 @@ module _ (s : ItemSetting) (t : Name) (w : of_side.SideState) (effect : Effect)
 
   not_told : (homes : List (List ℕ)) → told_homes w.hall.room effect ≡ Some homes
       → list_any behind homes ≡ false
-  not_told homes is = ap (list_any behind) (same_some homes passes.homes (sym is ∙ passes.told))
+  not_told homes is = ap (list_any behind) (same_Some homes passes.homes (sym is ∙ passes.told))
       ∙ passes.elsewhere
 
   -- ---- the room and the clients
@@ -286,7 +286,7 @@ module _ (s : ItemSetting) (t : Name) (w : of_side.SideState) (effect : Effect)
       on None there is = refl
       on (Some user) there is =
           ap (λ b. if b then shown_line w.hall.room effect user else None)
-          (unseen effect refl viewer user there (same_some user.home t is))
+          (unseen effect refl viewer user there (same_Some user.home t is))
 
       by_idle : (b : Bool) → option_and_then (line_for w.hall.room effect)
           (row w.hall.room.users (key viewer)) ≡ None → (if b then None else option_and_then

@@ -8,6 +8,7 @@ use Rattle.std.proofs.lemmas.Bool.{eq-eqb}
 use Rattle.std.specs.FinMap.{keys}
 use Rattle.std.specs.List.{list_any, AllByRecursion}
 use Rattle.std.specs.Option.{option_map_or, IfSome}
+use Rattle.std.proofs.lemmas.Option.{same_Some}
 use Rattle.irc_line.specs.Lines.{IsLine}
 use Rattle.irc_line.specs.Messages.{IsPlain, Written, line_text, message_of}
 use Rattle.irc_line.specs.Reading.{read_of}
@@ -26,7 +27,6 @@ use Rattle.irc_room.specs.OtherInvitations.{AreAlike}
 use Rattle.irc_room.specs.Readers.{home_under}
 use Rattle.irc_room.specs.Room.{Room}
 use Rattle.irc_room.specs.Sendable.{IsStoredNick}
-use Rattle.irc_room.specs.Lemmas.Rows.{same_some}
 use Rattle.irc_room.specs.Lemmas.AlikeLaw.{alike_have_alike, alike_stay_alike, alike_take_alike}
 use Rattle.irc_merge.specs.AsideInvitations.{AreReadAlike}
 use Rattle.irc_merge.specs.BurstRead.{some_far, brought, new_members}
@@ -522,7 +522,7 @@ module _ (s : ItemSetting) (b t : Name) (w : SideState) (view : View)
       by (Some r) there some = record {
         at = r;
         there = there;
-        link = same_some r.link (number s (toward w.tree.forest t home))
+        link = same_Some r.link (number s (toward w.tree.forest t home))
             (ap (option_map (λ (x : Shape). x.link)) some) ∙ ap (number s) way;
       }
 
@@ -541,10 +541,10 @@ module _ (s : ItemSetting) (b t : Name) (w : SideState) (view : View)
       by : (c : Bool) (o : Option ServerRow) → row_of (routes b) home ≡ o
           → (if c then Some 1 else option_map (λ (r : ServerRow). r.ours) o) ≡ Some has_row.at.token
           → (1 ≤ has_row.at.token) × (has_row.at.token ≤ max_servers)
-      by true o there one = let e = same_some 1 has_row.at.token one in (omega arith, omega arith)
+      by true o there one = let e = same_Some 1 has_row.at.token one in (omega arith, omega arith)
       by false None there none = absurd (cc none)
       by false (Some r) there some =
-          let e = same_some r.ours has_row.at.token some in
+          let e = same_Some r.ours has_row.at.token some in
           let most = new.right.low b home r b_among there in
           let least = ((new.right.numbered b b_among).rows home r there).ours in
           (omega arith, omega arith)

@@ -10,6 +10,8 @@ use Rattle.std.specs.Bool.{⊤}
 use Rattle.std.specs.FinMap.{entries, entries_sorted, values, find, is_sorted}
 use Rattle.std.specs.List.{flat_map, AllByRecursion}
 use Rattle.std.specs.Option.{option_map_or}
+use Rattle.std.proofs.Math.Bool.{false≢true}
+use Rattle.std.proofs.lemmas.Option.{none-some}
 use Rattle.irc_names.specs.Lemmas.PlainFacts.{is_true}
 use Rattle.irc_channels.specs.declared.flags.Flags.{Flags}
 use Rattle.irc_follow.specs.Lemmas.DeedEffects.{members_quiet, sets_quiet, tops_quiet, users_stay}
@@ -29,7 +31,6 @@ use Rattle.irc_names.specs.Tables.{fold_cmp, row}
 use Rattle.irc_names.specs.TableLaws.{same_fold, one_fold, row-alter}
 use Rattle.irc_room.specs.After.{after, titled_by}
 use Rattle.irc_room.specs.effect.Effect.TheVariants.{AddUser}
-use Rattle.irc_room.specs.Lemmas.Rows.{not_none, not_true}
 use Rattle.irc_room.specs.Lemmas.ViewerLaws.{IsNamed, table_named}
 use Rattle.irc_room.specs.Limits.{IsWithinLimits}
 use Rattle.irc_room.specs.Room.{Room, IsWellFormed}
@@ -172,7 +173,7 @@ user_theirs own far other room user well there theirs q found is away =
     by_fold : (b : Bool) → same_fold q (key user.nick) ≡ b → (o : Option User) → cond b
         (told_user o (Some user)) (row room.users q) ≡ Some found → row other.users q ≡ Some found
     by_fold true one None at = ap (row other.users) (one_fold q (key user.nick) one) ∙ there ∙ at
-    by_fold true one (Some holder) at = not_none found at
+    by_fold true one (Some holder) at = absurd (none-some found at)
     by_fold false two o at = theirs q found at away
 
 pub read_theirs : (own server : List ℕ) (far : List ℕ → Bool)
@@ -213,7 +214,8 @@ told_in doable own server far other (deed ∷ deeds) told room well theirs =
 -- whoever is far is of the other room, where nobody here is far
 nobody_far : (far : List ℕ → Bool) (room other : Room) → AreApart far room other
     → AreTheirs far other room
-nobody_far far room other apart fold user is away = not_true (sym (apart.near fold user is) ∙ away)
+nobody_far far room other apart fold user is away =
+    absurd (false≢true (sym (apart.near fold user is) ∙ away))
 
 pub burst_told_in : LinesCanBeDone → (own server : List ℕ) (far : List ℕ → Bool) (room other : Room)
     → IsWellFormed room → IsWellFormed other → IsWithinLimits other

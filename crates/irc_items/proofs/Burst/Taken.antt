@@ -6,6 +6,8 @@ use Rattle.std.proofs.Common.{if◌then◌else◌}
 use Rattle.std.proofs.lemmas.List.{append-nil}
 use Rattle.std.specs.List.{flat_map, AllByRecursion}
 use Rattle.std.specs.Option.{option_map, option_map_or}
+use Rattle.std.proofs.Math.Bool.{false≢true}
+use Rattle.std.proofs.lemmas.Option.{same_Some}
 use Rattle.irc_burst.specs.DeedsMeant.{as_stored}
 use Rattle.irc_channels.specs.declared.channel.Channel.{Channel}
 use Rattle.irc_channels.specs.declared.flags.Flags.{Flags}
@@ -31,7 +33,6 @@ use Rattle.irc_room.specs.effect.By.TheVariants as by
 use Rattle.irc_room.specs.effect.Effect.TheVariants.{SetTopic}
 use Rattle.irc_room.specs.Effects.{is_member}
 use Rattle.irc_room.specs.InTurn.{after_all, EachInTurn}
-use Rattle.irc_room.specs.Lemmas.Rows.{not_true, same_some}
 use Rattle.irc_room.specs.Limits.{IsBanCarried, IsCarriedText, KeepsLimits}
 use Rattle.irc_room.specs.Room.{Room, IsWellFormed}
 use Rattle.irc_room.specs.Sendable.{IsStoredNick}
@@ -109,10 +110,10 @@ module _ (far : List ℕ → Bool) (other room : Room) where
       by_row : (o : Option User) → row room.users (key member.0) ≡ o
           → option_map_or (λ (user : User). far user.home) o false ≡ true
           → option_map (λ (user : User). user.nick) o ≡ Some member.0
-      by_row None at pass = not_true pass
+      by_row None at pass = absurd (false≢true pass)
       by_row (Some user) at pass =
           let found : user ≡ is.user =
-          same_some user is.user (sym (theirs (key member.0) user at pass) ∙ is.there) in
+          same_Some user is.user (sym (theirs (key member.0) user at pass) ∙ is.there) in
           ap (λ (u : User). Some u.nick) found ∙ ap Some is.stored
 
   coming : (channel : List ℕ) → AreTheirs far other room → (members : List (List ℕ × Flags))
@@ -184,7 +185,7 @@ spelled room (member ∷ members) stored =
     by_row : (o : Option User) → option_map (λ (user : User). user.nick) o ≡ Some member.0
         → option_map_or (λ (user : User). user.nick) o member.0 ≡ member.0
     by_row None at = refl
-    by_row (Some user) at = same_some user.nick member.0 at
+    by_row (Some user) at = same_Some user.nick member.0 at
 
 pub members_spelled : (far : List ℕ → Bool) (other room : Room) (channel : List ℕ)
     (members : List (List ℕ × Flags)) → IsWellFormed room → IsWellFormed other

@@ -8,12 +8,12 @@ use Rattle.std.proofs.lemmas.List.Sums.{sum_by-cons}
 use Rattle.std.specs.List.{cons_option, list_any}
 use Rattle.std.specs.Cmp.Lexicographic.{nat_list_cmp_total}
 use Rattle.std.specs.FinMap.{entries, keys, len, len-empty, len-entries, len-insert, len-remove}
+use Rattle.std.proofs.lemmas.Option.{same_Some}
 use Rattle.irc_names.specs.Tables.{fold_cmp, row, put, tabulate}
 use Rattle.irc_names.specs.TableLaws.{same_fold, one_fold, row-tabulate}
 use Rattle.irc_relay.specs.Distances.{IsAmong}
 use Rattle.irc_relay.specs.Links.{Name, same, Link, joined}
 use Rattle.irc_relay.specs.Lemmas.TellingNames.{Telling, alike, unlike, tell, same_when}
-use Rattle.irc_room.specs.Lemmas.Rows.{same_some}
 use Rattle.irc_stage.specs.View.{View}
 use Rattle.irc_world.specs.World.{Setting, servers_where}
 use Rattle.irc_world.specs.Bounds.{part_size}
@@ -325,7 +325,7 @@ names_set (node ∷ nodes) (name ∷ names) named =
     by None none later = absurd (cc none)
     by (Some view) is later =
         ap (λ first. first ∷ map (λ (x : Setting). x.name) (filter_map setting_at nodes))
-        (same_some view.routes.name name is)
+        (same_Some view.routes.name name is)
         ∙ ap (λ rest. name ∷ rest) later
 
 pub settings_named : (net : Network) → IsSetUp net

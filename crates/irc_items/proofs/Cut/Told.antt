@@ -10,6 +10,7 @@ use Rattle.std.specs.Cmp.{first_so, second_so}
 use Rattle.std.specs.Cmp.Lexicographic.{bytes_decides}
 use Rattle.std.specs.List.{list_any, AllByRecursion}
 use Rattle.std.specs.Option.{option_map_or}
+use Rattle.irc_names.specs.Lemmas.PlainFacts.{is_some-map}
 use Rattle.irc_line.specs.Carried.{is_carried, is_carried_byte}
 use Rattle.irc_line.specs.Messages.{IsPlain, Written, line_text, message_of}
 use Rattle.irc_line.specs.Reading.{read_of}
@@ -19,7 +20,6 @@ use Rattle.irc_names.specs.Spellings.{exactly_same}
 use Rattle.irc_names.specs.Lemmas.RuleFacts.{server-fits}
 use Rattle.irc_room.specs.Laws.{NamesAreLineWords}
 use Rattle.irc_room.specs.Limits.{IsCarriedText}
-use Rattle.irc_room.specs.Lemmas.Rows.{is_some_map}
 use Rattle.irc_merge.specs.Deeds.{Deed, loses}
 use Rattle.irc_merge.specs.Quits.{users_at}
 use Rattle.irc_merge.specs.Split.{are_distinct}
@@ -148,7 +148,7 @@ module _ (known : IsKnownOfLines) (s : ItemSetting) (fixed : IsItemSetting s) (t
 
   known_there : is_known other.routes name ≡ true
   known_there = or_right (is_itself other.routes name) (is_some (row_of other.routes name))
-      (sym (is_some_map (λ (r : ServerRow). r.link) (row_of other.routes name))
+      (sym (is_some-map (λ (r : ServerRow). r.link) (row_of other.routes name))
       ∙ ap is_some (there_row name doable.can.known
       (far_is_another s t u w other next reader name doable.far)))
 

@@ -7,8 +7,8 @@ use Rattle.std.proofs.lemmas.Bool.{eqb-true}
 use Rattle.std.specs.FinMap.{get}
 use Rattle.std.specs.List.{cons_option, filter_map, list_any}
 use Rattle.std.specs.Option.{option_map_or}
+use Rattle.std.proofs.lemmas.Option.{same_Some}
 use Rattle.irc_line.specs.Messages.{line_text}
-use Rattle.irc_room.specs.Lemmas.Rows.{same_some}
 use Rattle.irc_stage.specs.Ends.{is_met}
 use Rattle.irc_stage.specs.Ways.{links_toward, met_links, ways_toward}
 use Rattle.irc_relay.specs.Distances.{IsAmong}
@@ -73,7 +73,7 @@ module _ (s : ItemSetting) (links : List Link) (t : Name) (w : of_side.SideState
       where
         by : (b : Bool) → Some end.far ≡ (if b then Some (if w.tree.knows u then Some u else None)
             else None) → end.far ≡ (if w.tree.knows u then Some u else None)
-        by true found = same_some end.far (if w.tree.knows u then Some u else None) found
+        by true found = same_Some end.far (if w.tree.knows u then Some u else None) found
         by false found = cc found
 
     pub met_known : is_met end ≡ true → w.tree.knows u ≡ true
@@ -115,7 +115,7 @@ module _ (s : ItemSetting) (links : List Link) (t : Name) (w : of_side.SideState
       by : (o : Option End) → option_map far_of o ≡ Some (Some u)
           → option_map_or is_met o false ≡ true
       by None is = cc is
-      by (Some end) is = ap is_some (same_some end.far (Some u) is)
+      by (Some end) is = ap is_some (same_Some end.far (Some u) is)
 
   -- ---- where lines go
 
@@ -160,7 +160,7 @@ module _ (s : ItemSetting) (links : List Link) (t : Name) (w : of_side.SideState
       by true is_known (alike one _) found =
           cc (found ∙ ap (λ b. if not b then Some (kept home) else None) one)
       by true is_known (unlike other two) found =
-          to_it is_known two (same_some (shape row) (kept home)
+          to_it is_known two (same_Some (shape row) (kept home)
           (found ∙ ap (λ b. if not b then Some (kept home) else None) other))
 
   hops_linked : (u : Name) (homes : List Name) → list_any (is_on (number s u))

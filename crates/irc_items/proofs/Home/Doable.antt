@@ -8,6 +8,7 @@ use Rattle.std.specs.Cmp.Lexicographic.{bytes_decides}
 use Rattle.std.specs.FinMap.{get}
 use Rattle.std.specs.List.{list_any, AllByRecursion}
 use Rattle.std.specs.Option.{option_map_or}
+use Rattle.std.proofs.lemmas.Option.{same_Some}
 use Rattle.irc_line.specs.Carried.{AreLineWords}
 use Rattle.irc_line.specs.Laws.{WordsAreOfTheLine}
 use Rattle.irc_line.specs.Messages.{Parsed}
@@ -25,7 +26,6 @@ use Rattle.irc_room.specs.Limits.{IsCarriedText, IsWithinLimits}
 use Rattle.irc_room.specs.Readers.{home_under}
 use Rattle.irc_room.specs.Room.{Room}
 use Rattle.irc_room.specs.Sendable.{IsSendable}
-use Rattle.irc_room.specs.Lemmas.Rows.{same_some}
 use Rattle.irc_acts.specs.declared.act.Act.{Act}
 use Rattle.irc_acts.specs.declared.act.Act.TheVariants.{Do}
 use Rattle.irc_acts.specs.Acts.{effects_among}
@@ -86,7 +86,7 @@ module _ (t : Name) where
           → option_map (λ (u : User). u.home) o ≡ Some home → home ≡ t
       by None there none = absurd (cc none)
       by (Some user) there some =
-          sym (same_some user.home home some) ∙ (bytes_decides user.home t).0 (own user there)
+          sym (same_Some user.home home some) ∙ (bytes_decides user.home t).0 (own user there)
 
   -- ---- what one user of this server does
 
@@ -102,7 +102,7 @@ module _ (t : Name) where
       sendable = sendable.now;
       doer = λ nick home doer is.
           own_home room (key me.nick) own home (ap (λ n. home_under room (key n))
-          (sym (same_some nick me.nick (sym doer ∙ done.0))) ∙ is);
+          (sym (same_Some nick me.nick (sym doer ∙ done.0))) ∙ is);
     };
     later = steps_told me (after room effect) effects (own_after t room effect
         (key me.nick) steps.now.own own) steps.later does.later sendable.later done.1;
@@ -183,7 +183,7 @@ module _ (t : Name) where
             };
             doer = λ nick at doer under.
                 own_home machine.room (key user.nick) own_there at
-                (ap (λ n. home_under machine.room (key n)) (same_some user.nick nick doer) ∙ under);
+                (ap (λ n. home_under machine.room (key n)) (same_Some user.nick nick doer) ∙ under);
           };
           later = tt;
         }

@@ -5,6 +5,7 @@ use Rattle.std.specs.FinMap.{get}
 use Rattle.std.specs.List.{list_any}
 use Rattle.std.specs.Option.{option_map, option_map_or}
 use Rattle.std.specs.Cmp.Lexicographic.{bytes_decides}
+use Rattle.std.proofs.lemmas.Option.{same_Some}
 use Rattle.irc_line.specs.Messages.{Parsed}
 use Rattle.irc_names.specs.Fold.{key}
 use Rattle.irc_names.specs.Tables.{row}
@@ -14,7 +15,6 @@ use Rattle.irc_room.specs.effect.Effect.TheVariants.{AddUser, Quit}
 use Rattle.irc_room.specs.InTurn.{EachInTurn}
 use Rattle.irc_room.specs.Invitations.{of_home}
 use Rattle.irc_room.specs.Room.{Room}
-use Rattle.irc_room.specs.Lemmas.Rows.{same_some}
 use Rattle.irc_room.specs.Lemmas.AlikeLaw.{home_is_alike}
 use Rattle.irc_routes.specs.Known.{place_of}
 use Rattle.irc_routes.specs.Place.{Place}
@@ -192,7 +192,7 @@ module _ (laws : AreDecisionLaws) (t : Name) (stays : ℕ → Bool) (knows : Nam
             let first = added registered in
             let named : name ≡ nick = cc after_it in
             subst (λ n. IsOwnAt t machine.room.users (key n))
-            (same_some first.user.nick name (sym first.is_nick ∙ its) ∙ named)
+            (same_Some first.user.nick name (sym first.is_nick ∙ its) ∙ named)
             (nobody_yet first.user first.behind
             (subst (ArePossible machine.room) first.steps_are possible))
 

@@ -5,12 +5,13 @@ use Rattle.std.proofs.Common.{refl, sym, ◌∙◌, ap, subst, is_some, option_m
 use Rattle.std.specs.Cmp.Lexicographic.{bytes_decides}
 use Rattle.std.specs.FinMap.{get}
 use Rattle.std.specs.Option.{option_and_then, option_map_or}
+use Rattle.std.proofs.lemmas.Option.{same_Some}
+use Rattle.irc_names.specs.Lemmas.PlainFacts.{is_some-map}
 use Rattle.irc_names.specs.Fold.{key}
 use Rattle.irc_names.specs.Tables.{row}
 use Rattle.irc_users.specs.declared.user.User.{User}
 use Rattle.irc_users.specs.UserTable.{is_home}
 use Rattle.irc_room.specs.Invitations.{of_home}
-use Rattle.irc_room.specs.Lemmas.Rows.{is_some_map, same_some}
 use Rattle.irc_routes.specs.declared.server_row.ServerRow.{ServerRow}
 use Rattle.irc_routes.specs.Known.{Known, next_hop, place_of, row_of}
 use Rattle.irc_relay.specs.Distances.{IsAmong}
@@ -68,8 +69,8 @@ module _ (s : ItemSetting) (world : World) (routes : Name → Known) (h : Name) 
   pub ways_known : KnowsWays h (is_home_of s.homes h) view (λ x. joined world.links x h)
   ways_known home known =
       ap (λ (k : Known). is_some (next_hop k home)) fits.routes
-      ∙ is_some_map (λ (r : ServerRow). r.link) (row_of (routes h) home)
-      ∙ sym (is_some_map shape (row_of (routes h) home))
+      ∙ is_some-map (λ (r : ServerRow). r.link) (row_of (routes h) home)
+      ∙ sym (is_some-map shape (row_of (routes h) home))
       ∙ ap is_some (fits.sound.tree.rows h home fits.here)
       ∙ ap (λ b. is_some (if b && not (same home h)
       then Some (shape_in s.names (info_in s.settings) world.links h home) else None)) known
@@ -88,7 +89,7 @@ module _ (s : ItemSetting) (world : World) (routes : Name → Known) (h : Name) 
       let both = fits.sound.registered q (key nick) (ap (option_and_then fold_of) there) in
       let its_home = (bytes_decides h both.home).0
       (sym (ap (λ o. option_map_or (same h) o false) both.of_client) ∙ mine) in
-      (bytes_decides user.home h).1 (same_some user.home both.home
+      (bytes_decides user.home h).1 (same_Some user.home both.home
       (sym (ap (option_map (λ (u : User). u.home)) is) ∙ both.of_user) ∙ sym its_home)
 
   own_name : (routes h).name ≡ h

@@ -7,6 +7,7 @@ use Rattle.std.specs.Cmp.Lexicographic.{bytes_decides}
 use Rattle.std.specs.FinMap.{get}
 use Rattle.std.specs.List.{AllByRecursion}
 use Rattle.std.specs.Cmp.{first_so}
+use Rattle.std.proofs.lemmas.Option.{same_Some}
 use Rattle.irc_names.specs.Fold.{key}
 use Rattle.irc_names.specs.Fold as folded
 use Rattle.irc_names.specs.Tables.{Table, row, alter, moved}
@@ -21,7 +22,6 @@ use Rattle.irc_room.specs.After.{after}
 use Rattle.irc_room.specs.Effects.{has_user, IsPossible}
 use Rattle.irc_room.specs.InTurn.{EachInTurn}
 use Rattle.irc_room.specs.Room.{Room, IsWellFormed}
-use Rattle.irc_room.specs.Lemmas.Rows.{same_some}
 use Rattle.irc_room.specs.Lemmas.WellFormedLaw.{after_is_well_formed}
 use Rattle.irc_commands.specs.Doers.{IsDoneBy}
 use Rattle.irc_relay.specs.Links.{Name}
@@ -57,7 +57,7 @@ module _ (t : Name) where
         (sym (row-alter (key new.nick) (λ _. Some new) users fold) ∙ is)
       where
         by : (b : Bool) → cond b (Some new) (row users fold) ≡ Some user → is_home t user ≡ true
-        by true one = ap (is_home t) (sym (same_some new user one)) ∙ here
+        by true one = ap (is_home t) (sym (same_Some new user one)) ∙ here
         by false two = own user two
 
     taken_out : (old : List ℕ) → IsOwnAt (alter old (λ _. None) users) fold
@@ -74,7 +74,7 @@ module _ (t : Name) where
         → option_map (with_change change) o ≡ Some user → is_home t user ≡ true
     same_home change None user all is = absurd (cc is)
     same_home change (Some old) user all is =
-        ap (is_home t) (sym (same_some (with_change change old) user is)) ∙ all old refl
+        ap (is_home t) (sym (same_Some (with_change change old) user is)) ∙ all old refl
 
     one_fold_own : (at : List ℕ) → same_fold fold at ≡ true → IsOwnAt users at
     one_fold_own at one user is = own user (ap (row users) (one_fold fold at one) ∙ is)
@@ -100,7 +100,7 @@ module _ (t : Name) where
         by : (b c : Bool) → cond b (Some (with_nick nick one)) (cond c None (row users fold))
             ≡ Some user → is_home t user ≡ true
         by true c now =
-            ap (is_home t) (sym (same_some (with_nick nick one) user now)) ∙ its one there
+            ap (is_home t) (sym (same_Some (with_nick nick one) user now)) ∙ its one there
         by false true now = absurd (cc now)
         by false false now = own user now
 
@@ -126,7 +126,7 @@ module _ (t : Name) where
       by None none = absurd (cc (sym (ap is_some none) ∙ there))
       by (Some one) is = λ user now.
           ap (is_home t)
-          (sym (same_some (with_nick new one) user
+          (sym (same_Some (with_nick new one) user
           (sym (row-moved (key nick) (key new) (with_nick new) room.users one is (key new)
           ∙ ap (λ b. cond b (Some (with_nick new one)) (cond (same_fold (key new) (key nick)) None
           (row room.users (key new)))) (same_fold-refl (key new)))
@@ -206,7 +206,7 @@ module _ (t : Name) where
       → IsOwnAt room.users (key me.nick) → IsOwnDoing room effect
   own_doing me room (AddUser user) done own = absurd (cc done)
   own_doing me room (Rename nick new) done own = λ user is.
-      own user (ap (λ n. row room.users (key n)) (sym (same_some nick me.nick done)) ∙ is)
+      own user (ap (λ n. row room.users (key n)) (sym (same_Some nick me.nick done)) ∙ is)
   own_doing me room effect done own = tt
 
   pub own_in_turn : (me : User) (room : Room) (effects : List Effect)

@@ -13,6 +13,7 @@ use Rattle.std.specs.FinMap.Entries.{below_all, find}
 use Rattle.std.specs.List.{fold, insert, list_any, prefix_len, AllByRecursion}
 use Rattle.std.specs.Ordering.{is_lt}
 use Rattle.std.proofs.Math.Bool.{or-false}
+use Rattle.std.proofs.lemmas.Option.{same_Some}
 use Rattle.irc_names.specs.Lemmas.PlainFacts.{is_true}
 use Rattle.irc_names.specs.Tables.{Table, row, fold_cmp}
 use Rattle.irc_tables.specs.FoldedRows.{IsInFoldedOrder}
@@ -22,7 +23,6 @@ use Rattle.irc_relay.specs.Links.{Name, Link, same, toward, distance, AreJoined,
 use Rattle.irc_relay.specs.Links.{IsNextHop}
 use Rattle.irc_relay.specs.Lemmas.TellingNames.{Telling, alike, unlike, tell, same_when}
 use Rattle.irc_relay.specs.Lemmas.NextHops.{distance_back, linked_back, next_hop}
-use Rattle.irc_room.specs.Lemmas.Rows.{same_some}
 use Rattle.irc_routes.specs.declared.server_row.ServerRow.{ServerRow}
 use Rattle.irc_routes.specs.Known.{Known, is_behind, is_told_before, others, put_among, row_of}
 use Rattle.irc_routes.specs.Known.{servers_told, IsNumbered}
@@ -179,7 +179,7 @@ module _ (s : ItemSetting) (links : List Link) (routes : Name → Known) (b : Na
 
       by : Telling next.name r.name → same next.name r.name ≡ false
       by (alike _ e) =
-          let one : next ≡ r = same_some next r (sym all.0 ∙ ap (row_of known) e ∙ is) in
+          let one : next ≡ r = same_Some next r (sym all.0 ∙ ap (row_of known) e ∙ is) in
           absurd (not_before_itself r
           (subst (λ n. is_told_before r n ≡ true) one (before_is r next ∙ parts.0)))
       by (unlike z _) = z

@@ -2,11 +2,11 @@
 use Rattle.std.proofs.Common.{◌≡◌, ℕ, Bool, true, false, cond, ◌&&◌, Option, Some, None, List, refl}
 use Rattle.std.proofs.Common.{sym, ◌∙◌, ap, is_some}
 use Rattle.std.specs.Option.{option_and_then, option_map_or}
+use Rattle.std.proofs.Math.Bool.{false≢true}
 use Rattle.irc_names.specs.Fold.{key}
 use Rattle.irc_names.specs.Tables.{row}
 use Rattle.irc_users.specs.declared.user.User.{User}
 use Rattle.irc_room.specs.Room.{Room, IsWellFormed}
-use Rattle.irc_room.specs.Lemmas.Rows.{not_true}
 use Rattle.irc_merge.specs.Quits.{collision_text}
 use Rattle.irc_merge.specs.Merge.{clash, room_without}
 use Rattle.irc_merge.specs.Lemmas.Quitting.{among, users_left, quits_well, thinned, channels_left}
@@ -56,6 +56,6 @@ held_apart {A} one other well_one well_other q here there =
   where
     by_rows : (x y : Option User) → is_some (cond (is_some x && is_some y) None x) ≡ true
         → is_some (cond (is_some y && is_some x) None y) ≡ true → A
-    by_rows None y here there = not_true here
-    by_rows (Some u) None here there = not_true there
-    by_rows (Some u) (Some v) here there = not_true here
+    by_rows None y here there = absurd (false≢true here)
+    by_rows (Some u) None here there = absurd (false≢true there)
+    by_rows (Some u) (Some v) here there = absurd (false≢true here)

@@ -5,6 +5,7 @@ use Rattle.std.proofs.Common.{[], ◌∷◌, ◌++◌, refl, ◌∙◌, ap, is_s
 use Rattle.std.specs.List.{list_any, flat_map}
 use Rattle.std.specs.FinMap.{keys}
 use Rattle.std.specs.Option.{option_map_or}
+use Rattle.irc_names.specs.Lemmas.PlainFacts.{is_some-map}
 use Rattle.irc_names.specs.Fold.{key}
 use Rattle.irc_names.specs.Tables.{row}
 use Rattle.irc_names.specs.TableLaws.{row-alter_same}
@@ -22,7 +23,6 @@ use Rattle.irc_room.specs.Effects.{has_user, has_channel, is_member}
 use Rattle.irc_room.specs.After.{after, titled_by}
 use Rattle.irc_room.specs.InTurn.{after_all, EachInTurn}
 use Rattle.irc_room.specs.InTurnLaws.{each-append, each-keeps}
-use Rattle.irc_room.specs.Lemmas.Rows.{is_some_map}
 use Rattle.irc_room.specs.Lemmas.WellFormedLaw.{after_is_well_formed}
 use Rattle.irc_room.specs.Lemmas.RespelledRooms.{respelled_is_well_formed}
 use Rattle.irc_merge.specs.Deeds.{Deed, does, gains, loses, kills, brings, sets, tops, flag_given}
@@ -107,7 +107,7 @@ changed_there : (room : Room) (channel : List ℕ) (changes : List ModeChange)
 unfolding after
 changed_there room channel changes there =
     ap is_some (row-alter_same (key channel) (option_map (all_changed changes)) room.channels)
-    ∙ is_some_map (all_changed changes) (row room.channels (key channel))
+    ∙ is_some-map (all_changed changes) (row room.channels (key channel))
     ∙ there
 
 flags_do : (room : Room) (channel nick : List ℕ) (op voice : Bool)

@@ -3,6 +3,8 @@ use Rattle.std.proofs.Common.{◌≡◌, ℕ, Bool, true, false, cond, not, ◌&
 use Rattle.std.proofs.Common.{refl, sym, ◌∙◌, ap, subst, is_some, option_map}
 use Rattle.std.specs.Option.{option_and_then, option_map_or}
 use Rattle.std.specs.FinMap.{empty, keys, retain_keys, get-empty}
+use Rattle.std.proofs.Math.Bool.{false≢true}
+use Rattle.std.proofs.lemmas.Option.{none-some, same_Some}
 use Rattle.irc_names.specs.Lemmas.PlainFacts.{same_either_way}
 use Rattle.irc_names.specs.Tables.{Table, fold_cmp, row, each, both}
 use Rattle.irc_names.specs.TableLaws.{same_table, row-each}
@@ -11,7 +13,6 @@ use Rattle.irc_users.specs.UserTable.{is_home}
 use Rattle.irc_channels.specs.declared.channel.Channel.{Channel}
 use Rattle.irc_modes.specs.Modes.{is_nil}
 use Rattle.irc_room.specs.Room.{Room, IsWellFormed, IsSoundRow}
-use Rattle.irc_room.specs.Lemmas.Rows.{not_none, not_true, same_some}
 use Rattle.irc_merge.specs.Merge.{clash, room_without, either, joined_channel, one_channel, merge}
 use Rattle.irc_merge.specs.Merge.{uninvited, channel_uninvited}
 use Rattle.irc_room.specs.Invitations.{is_at, inviting_only, of_home}
@@ -55,7 +56,7 @@ invited_sound users stays fold channel sound = record {
     by_test : (q : List ℕ) (b : Bool) → is_some (cond b (row channel.invited q) None) ≡ true
         → is_some (row channel.invited q) ≡ true
     by_test q true there = there
-    by_test q false there = not_true there
+    by_test q false there = absurd (false≢true there)
 
 pub home_well : (home : List ℕ) (room : Room) → IsWellFormed room → IsWellFormed (of_home home room)
 home_well home room well = record {
@@ -69,10 +70,10 @@ home_well home room well = record {
     by_row : (fold : List ℕ) (channel : Channel) (o : Option Channel) → row room.channels fold ≡ o
         → option_map (inviting_only (is_at home room.users)) o ≡ Some channel
         → IsSoundRow room.users fold channel
-    by_row fold channel None at is = not_none channel is
+    by_row fold channel None at is = absurd (none-some channel is)
     by_row fold channel (Some before) at is =
         subst (IsSoundRow room.users fold)
-        (same_some (inviting_only (is_at home room.users) before) channel is)
+        (same_Some (inviting_only (is_at home room.users) before) channel is)
         (invited_sound room.users (is_at home room.users) fold before
         (well.channels_sound fold before at))
 
@@ -115,7 +116,7 @@ module _ (home : List ℕ) (room other : Room) (well : IsWellFormed room)
           (cond (option_map_or (is_home home) o false) x None) None
           ≡ cond (option_map_or (is_home home) (told_user o p) false)
           (cond (not (is_some o && is_some p)) x None) None
-      by_users q None p there x = not_true there
+      by_users q None p there x = absurd (false≢true there)
       by_users q (Some user) None there x = refl
       by_users q (Some user) (Some holder) there x = refl
 
@@ -149,7 +150,7 @@ module _ (home : List ℕ) (room other : Room) (well : IsWellFormed room)
       by_users : (q : List ℕ) (o p : Option User) → row other.users q ≡ p → is_some p ≡ true
           → (x : Option (Unit {0})) → None ≡ cond (option_map_or (is_home home)
           (told_user o p) false) (cond (not (is_some p && is_some o)) x None) None
-      by_users q o None is there x = not_true there
+      by_users q o None is there x = absurd (false≢true there)
       by_users q None (Some user) is there x = sym (ap (λ b. cond b x None) (elsewhere q user is))
       by_users q (Some holder) (Some user) is there x = refl
 

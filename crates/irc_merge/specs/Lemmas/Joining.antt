@@ -2,6 +2,8 @@
 use Rattle.std.proofs.Common.{◌≡◌, ℕ, Bool, true, false, cond, Option, Some, None, List, refl, sym}
 use Rattle.std.proofs.Common.{◌∙◌, ap, subst, is_some}
 use Rattle.std.specs.Ordering.{is_lt}
+use Rattle.std.proofs.Math.Bool.{false≢true}
+use Rattle.std.proofs.lemmas.Option.{same_Some}
 use Rattle.irc_names.specs.Fold.{key}
 use Rattle.irc_names.specs.Greater.{bytes_cmp, greater}
 use Rattle.irc_names.specs.Tables.{Table, row, both}
@@ -9,7 +11,7 @@ use Rattle.irc_names.specs.TableLaws.{row-both}
 use Rattle.irc_users.specs.declared.user.User.{User}
 use Rattle.irc_channels.specs.declared.channel.Channel.{Channel}
 use Rattle.irc_room.specs.Room.{Room, IsWellFormed, IsSoundRow}
-use Rattle.irc_room.specs.Lemmas.Rows.{not_true, same_some, some_row, some_key}
+use Rattle.irc_room.specs.Lemmas.Rows.{some_row, some_key}
 use Rattle.irc_room.specs.Lemmas.SoundRows.{IsWithin, sound_more}
 use Rattle.irc_merge.specs.Merge.{either, one_channel, joined_channel, union, merge, room_without}
 use Rattle.irc_merge.specs.Laws.{MergeIsWellFormed}
@@ -26,7 +28,7 @@ pub row-joined : (one other : Table Channel) (q : List ℕ)
 row-joined one other q = row-both joined_channel one other refl q
 
 pub either_first : {X : Type 0} (x y : Option X) → is_some x ≡ true → is_some (either x y) ≡ true
-either_first None y there = not_true there
+either_first None y there = absurd (false≢true there)
 either_first (Some x) y there = refl
 
 pub either_second : {X : Type 0} (x y : Option X) → is_some y ≡ true → is_some (either x y) ≡ true
@@ -110,7 +112,7 @@ union_well one other well_one well_other = record {
         (well_one.channels_sound fold channel (at ∙ is))
     channel_sound fold channel (Some c) at (Some d) that is =
         subst (IsSoundRow (both either one.users other.users) fold)
-        (same_some (one_channel c d) channel is)
+        (same_Some (one_channel c d) channel is)
         (both_sound one.users other.users fold c d (well_one.channels_sound fold c at)
         (well_other.channels_sound fold d that))
 

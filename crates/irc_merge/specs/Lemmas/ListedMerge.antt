@@ -8,6 +8,7 @@ use Rattle.std.specs.List.{list_any, flat_map, cons_option, AllByRecursion}
 use Rattle.std.specs.Option.{option_map_or, option_and_then}
 use Rattle.std.specs.FinMap.{values}
 use Rattle.std.specs.FinMap.Entries.{find, is_sorted}
+use Rattle.std.proofs.lemmas.Iterator.Adapters.{option_map_id}
 use Rattle.irc_names.specs.Fold.{key, same}
 use Rattle.irc_names.specs.Greater.{bytes_cmp, greater}
 use Rattle.irc_names.specs.Tables.{fold_cmp, row}
@@ -21,7 +22,7 @@ use Rattle.irc_room.specs.Room.{Room}
 use Rattle.irc_room.specs.After.{after}
 use Rattle.irc_room.specs.InTurn.{after_all}
 use Rattle.irc_room.specs.Seen.{full_sender, line_from}
-use Rattle.irc_room.specs.Lemmas.Listed.{map_itself, table_of, row_listed, entries_listed}
+use Rattle.irc_room.specs.Lemmas.Listed.{table_of, row_listed, entries_listed}
 use Rattle.irc_room.specs.Lemmas.ListedRooms.{ListedChannel, ListedRoom, channel_of, room_of}
 use Rattle.irc_room.specs.Lemmas.ListedRooms.{lists_member, member_listed, list_after, after_listed}
 use Rattle.irc_room.specs.Lemmas.ListedRooms.{all_listed}
@@ -154,9 +155,9 @@ pub joined_flags : (nick : List ℕ) (x y : Option ListedChannel) → option_and
     ≡ either (flags_in nick x) (flags_in nick y)
 joined_flags nick None None = refl
 joined_flags nick None (Some d) =
-    row_listed (λ f. f) d.members nick ∙ map_itself (find fold_cmp nick d.members)
+    row_listed (λ f. f) d.members nick ∙ option_map_id (find fold_cmp nick d.members)
 joined_flags nick (Some c) None = row_listed (λ f. f) c.members nick
-    ∙ map_itself (find fold_cmp nick c.members) ∙ alone (find fold_cmp nick c.members)
+    ∙ option_map_id (find fold_cmp nick c.members) ∙ alone (find fold_cmp nick c.members)
   where
     alone : (o : Option Flags) → o ≡ either o None
     alone None = refl
@@ -164,8 +165,8 @@ joined_flags nick (Some c) None = row_listed (λ f. f) c.members nick
 joined_flags nick (Some c) (Some d) =
     row-either (table_of (λ f. f) c.members) (table_of (λ f. f) d.members) nick
     ∙ (λ i. either
-    ((row_listed (λ f. f) c.members nick ∙ map_itself (find fold_cmp nick c.members)) i)
-    ((row_listed (λ f. f) d.members nick ∙ map_itself (find fold_cmp nick d.members)) i))
+    ((row_listed (λ f. f) c.members nick ∙ option_map_id (find fold_cmp nick c.members)) i)
+    ((row_listed (λ f. f) d.members nick ∙ option_map_id (find fold_cmp nick d.members)) i))
 
 pub channel_merged : (one other : ListedRoom) → AreInOrder one → AreInOrder other
     → (channel : List ℕ) → row (merge (room_of one) (room_of other)).channels channel

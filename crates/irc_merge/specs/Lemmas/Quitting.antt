@@ -7,6 +7,8 @@ use Rattle.std.specs.Option.{option_and_then, option_map_or}
 use Rattle.std.specs.FinMap.{entries, entries_sorted, values, keys, retain_keys, find, is_sorted}
 use Rattle.std.specs.FinMap.{get-entries}
 use Rattle.std.specs.FinMap.Entries.{below_all}
+use Rattle.std.proofs.Math.Bool.{false≢true}
+use Rattle.std.proofs.lemmas.Option.{none-some}
 use Rattle.irc_names.specs.Lemmas.PlainFacts.{is_true}
 use Rattle.irc_names.specs.Fold.{key}
 use Rattle.irc_names.specs.Tables.{Table, fold_cmp, row, alter}
@@ -20,7 +22,7 @@ use Rattle.irc_room.specs.effect.Effect.TheVariants.{Quit}
 use Rattle.irc_room.specs.Room.{Room, IsWellFormed, IsSoundRow}
 use Rattle.irc_room.specs.After.{after}
 use Rattle.irc_room.specs.InTurn.{after_all}
-use Rattle.irc_room.specs.Lemmas.Rows.{not_none, not_true, no_row, some_key}
+use Rattle.irc_room.specs.Lemmas.Rows.{no_row, some_key}
 use Rattle.irc_room.specs.Lemmas.SoundRows.{without_sound}
 use Rattle.irc_room.specs.Lemmas.ViewerLaws.{IsNamed, table_named}
 use Rattle.irc_merge.specs.Quits.{quits_of}
@@ -60,13 +62,13 @@ quit_well room nick text well = record {
   where
     by_fold : (fold : List ℕ) (user : User) (b : Bool)
         → cond b None (row room.users fold) ≡ Some user → key user.nick ≡ fold
-    by_fold fold user true is = not_none user is
+    by_fold fold user true is = absurd (none-some user is)
     by_fold fold user false is = well.users_named fold user is
 
     by_row : (fold : List ℕ) (channel : Channel) (o : Option Channel)
         → row room.channels fold ≡ o → option_and_then (without_user (key nick)) o ≡ Some channel
         → IsSoundRow (alter (key nick) (λ _. None) room.users) fold channel
-    by_row fold channel None at is = not_none channel is
+    by_row fold channel None at is = absurd (none-some channel is)
     by_row fold channel (Some before) at is = without_sound room.users fold
         (key nick) before channel (well.channels_sound fold before at) is
 
@@ -114,7 +116,8 @@ none_kept {X} table p none =
     by_row : (q : List ℕ) (b : Bool) (o : Option X) → row table q ≡ o
         → cond b (row table q) None ≡ None
     by_row q true None at = at
-    by_row q true (Some x) at = not_true (sym (sym none ∙ some_key table q (ap is_some at)))
+    by_row q true (Some x) at =
+        absurd (false≢true (sym (sym none ∙ some_key table q (ap is_some at))))
     by_row q false o at = refl
 
 thin_after : (fold : List ℕ) (gone : List ℕ → Bool) (channel : Channel) → option_and_then

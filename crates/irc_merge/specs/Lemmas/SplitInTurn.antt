@@ -8,6 +8,7 @@ use Rattle.std.specs.Option.{option_and_then, option_map_or}
 use Rattle.std.specs.Cmp.Lexicographic.{bytes_decides}
 use Rattle.std.specs.FinMap.{values}
 use Rattle.std.proofs.lemmas.Bool.{or_parts}
+use Rattle.std.proofs.Math.Bool.{false≢true}
 use Rattle.irc_names.specs.Spellings.{exactly_same}
 use Rattle.irc_names.specs.Tables.{Table, row, each}
 use Rattle.irc_names.specs.TableLaws.{same_table, row-each}
@@ -19,7 +20,6 @@ use Rattle.irc_room.specs.Room.{Room, IsWellFormed}
 use Rattle.irc_room.specs.After.{after}
 use Rattle.irc_room.specs.InTurn.{after_all}
 use Rattle.irc_room.specs.InTurnLaws.{after_all-append}
-use Rattle.irc_room.specs.Lemmas.Rows.{not_true}
 use Rattle.irc_room.specs.Viewers.{shows_to}
 use Rattle.irc_merge.specs.ShownAlong.{shown_along}
 use Rattle.irc_merge.specs.Quits.{quits_of, users_at}
@@ -57,8 +57,9 @@ two_homes home other two user here = by_test (is_home other user) refl
   where
     by_test : (b : Bool) → is_home other user ≡ b → b ≡ false
     by_test true there =
-        not_true (sym (sym ((bytes_decides home other).1 (sym ((bytes_decides user.home home).0
-        here) ∙ (bytes_decides user.home other).0 there)) ∙ two))
+        absurd (false≢true
+        (sym (sym ((bytes_decides home other).1 (sym ((bytes_decides user.home home).0
+        here) ∙ (bytes_decides user.home other).0 there)) ∙ two)))
     by_test false there = refl
 
 pub others_stay : OthersStay

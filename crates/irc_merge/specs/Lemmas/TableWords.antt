@@ -15,11 +15,11 @@ use Rattle.std.specs.FinMap.{get-entries, get-retain_keys, slice_cmp-IsAntisymme
 use Rattle.std.specs.FinMap.{nat_cmp-IsAntisymmetric}
 use Rattle.std.specs.FinMap.Entries.{below_all, same_entries, is_sorted-where_key, find-where_key}
 use Rattle.std.specs.Bool.{passes}
+use Rattle.std.proofs.Math.Bool.{false≢true}
 use Rattle.irc_names.specs.Lemmas.PlainFacts.{is_true}
 use Rattle.irc_names.specs.Tables.{Table, fold_cmp, row, alter, each}
 use Rattle.irc_names.specs.TableLaws.{same_fold, same_fold-refl, one_fold, same_table, row-alter}
 use Rattle.irc_names.specs.TableLaws.{row-alter_same, row-each}
-use Rattle.irc_room.specs.Lemmas.Rows.{not_true}
 use Rattle.irc_tables.specs.Lemmas.OrderedEntries.{above-is, find-above}
 
 pub order : IsTotalOrder fold_cmp
@@ -162,8 +162,9 @@ pub above_first : {X : Type 0} (q : List ℕ) (e : List ℕ × X) (es : List (Li
 above_first {X} q e es below there = by_fold (same_fold q e.0) refl
   where
     by_fold : (b : Bool) → same_fold q e.0 ≡ b → b ≡ false
-    by_fold true one = not_true (sym (ap is_some (ap (λ f. find fold_cmp f es) (one_fold q e.0 one)
-        ∙ absent e.0 es below)) ∙ there)
+    by_fold true one =
+        absurd (false≢true (sym (ap is_some (ap (λ f. find fold_cmp f es) (one_fold q e.0 one)
+        ∙ absent e.0 es below)) ∙ there))
     by_fold false two = refl
 
 -- what holds of all that is found, holds of each entry

@@ -7,6 +7,7 @@ use Rattle.std.specs.Option.{option_map_or}
 use Rattle.std.specs.FinMap.{get, retain_keys, get-retain_keys, nat_cmp-IsAntisymmetric}
 use Rattle.std.specs.Cmp.Lexicographic.{bytes_decides}
 use Rattle.std.proofs.lemmas.Bool.{not-true, and_parts}
+use Rattle.std.proofs.lemmas.Option.{same_Some}
 use Rattle.irc_names.specs.Fold.{key, same}
 use Rattle.irc_names.specs.Tables.{Table, row, alter}
 use Rattle.irc_names.specs.TableLaws.{same_fold, same_fold-refl, one_fold, row-alter}
@@ -20,7 +21,6 @@ use Rattle.irc_room.specs.After.{after}
 use Rattle.irc_room.specs.Applying.{does, missing_fault}
 use Rattle.irc_room.specs.Effects.{brings_free, has_channel, has_user, is_idle, needs_channel}
 use Rattle.irc_room.specs.Effects.{needs_users, IsPossible}
-use Rattle.irc_room.specs.Lemmas.Rows.{same_some}
 use Rattle.irc_room.specs.Lemmas.WellFormedLaw.{after_is_well_formed}
 use Rattle.irc_room.specs.Room.{Room, IsWellFormed}
 use Rattle.irc_stage.specs.declared.clients.Client.{Client}
@@ -105,7 +105,7 @@ module _ (machine : RoomMachine) (user : User) (matched : IsMatched machine)
       ≡ Some other → has_client machine.clients fold ≡ true
   had fold other home true one is =
       absurd (cc (sym ((bytes_decides user.home machine.place.name).1
-      (ap (λ (u : User). u.home) (same_some user other is) ∙ home)) ∙ abroad))
+      (ap (λ (u : User). u.home) (same_Some user other is) ∙ home)) ∙ abroad))
   had fold other home false two is = matched.user_has_client fold other is home
 
   newcomer_matched : IsMatched (machine_after machine (AddUser user))

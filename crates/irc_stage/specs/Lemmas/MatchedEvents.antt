@@ -6,6 +6,7 @@ use Rattle.std.proofs.Common.{if◌then◌else◌}
 use Rattle.std.specs.FinMap.{get}
 use Rattle.std.specs.List.{list_any}
 use Rattle.std.specs.Option.{option_map_or}
+use Rattle.std.proofs.lemmas.Option.{same_Some}
 use Rattle.irc_line.specs.Messages.{Parsed}
 use Rattle.irc_names.specs.Fold.{key}
 use Rattle.irc_names.specs.Tables.{row}
@@ -14,7 +15,6 @@ use Rattle.irc_users.specs.UserTable.{is_home}
 use Rattle.irc_room.specs.effect.Effect.TheVariants.{AddUser, Quit}
 use Rattle.irc_room.specs.Room.{Room, IsWellFormed}
 use Rattle.irc_room.specs.Effects.{IsPossible}
-use Rattle.irc_room.specs.Lemmas.Rows.{same_some}
 use Rattle.irc_acts.specs.declared.act.Act.{Act}
 use Rattle.irc_acts.specs.declared.act.Act.TheVariants.{Do}
 use Rattle.irc_acts.specs.Possible.{ArePossible}
@@ -235,7 +235,7 @@ quit_possible room well (Some (Registered name)) nick text is =
     by_row (Some user) there some = record {
       users_there =
           ap (λ q. is_some (row room.users q) && true) (sym
-          (ap key (same_some (user.nick) nick some)) ∙ well.users_named (key name) user there)
+          (ap key (same_Some (user.nick) nick some)) ∙ well.users_named (key name) user there)
           ∙ ap (λ o. is_some o && true) there;
       channel_there = refl;
       nick_free = refl;

@@ -10,6 +10,8 @@ use Rattle.std.specs.FinMap.{get, insert, remove, entries, entries_sorted, find,
 use Rattle.std.specs.FinMap.{get-entries}
 use Rattle.std.specs.Cmp.{first_so}
 use Rattle.std.proofs.lemmas.Bool.{or_right, or_parts}
+use Rattle.std.proofs.Math.Facts.{and_yes}
+use Rattle.std.proofs.lemmas.Option.{same_Some}
 use Rattle.irc_names.specs.Lemmas.PlainFacts.{implied}
 use Rattle.irc_names.specs.Fold.{key, same}
 use Rattle.irc_names.specs.Tables.{row, alter}
@@ -22,8 +24,6 @@ use Rattle.irc_room.specs.effect.Effect.TheVariants.{AddUser, Rename, Quit}
 use Rattle.irc_room.specs.effect.Effect.TheVariants.{ChangeUser}
 use Rattle.irc_room.specs.Effects.{IsPossible, has_user}
 use Rattle.irc_room.specs.After.{after}
-use Rattle.irc_room.specs.Lemmas.Rows.{same_some}
-use Rattle.irc_room.specs.Lemmas.ViewerLaws.{both_true}
 use Rattle.irc_acts.specs.declared.act.Act.{Act}
 use Rattle.irc_acts.specs.declared.act.Act.TheVariants.{Answer, Raw, Do}
 use Rattle.irc_acts.specs.Possible.{ArePossible}
@@ -83,7 +83,7 @@ new_client {A = A} clients conn q client other is mine others =
     by (same_number q conn) refl (sym (get-with clients conn client q) ∙ is)
   where
     by : (b : Bool) → same_number q conn ≡ b → cond b (Some client) (get clients q) ≡ Some other → A
-    by true one left = mine (one_number q conn one) (same_some client other left)
+    by true one left = mine (one_number q conn one) (same_Some client other left)
     by false two left = others two left
 
 -- some client has a nickname
@@ -99,7 +99,7 @@ any_found p (e ∷ es) q c is passes = by (same_number q e.0) refl (any_found p 
         → cond b (Some e.1) (find nat_cmp q es) ≡ Some c
         → (p e.1 || list_any (λ (x : ℕ × Client). p x.1) es) ≡ true
     by true one rest found = ap (λ b. b || list_any (λ (x : ℕ × Client). p x.1) es)
-        (ap p (same_some e.1 c found) ∙ passes)
+        (ap p (same_Some e.1 c found) ∙ passes)
     by false two rest found =
         or_right (p e.1) (list_any (λ (x : ℕ × Client). p x.1) es) (rest found passes)
 
@@ -109,8 +109,8 @@ any_gives : {A : Type 0} (p : Client → Bool) (es : List (ℕ × Client))
     → ((q : ℕ) (c : Client) → find nat_cmp q es ≡ Some c → p c ≡ true → A) → A
 any_gives p [] rise some gives = cc some
 any_gives {A = A} p (e ∷ es) rise some gives =
-    by (p e.1) refl some (λ rest. any_gives p es (both_true _ _ rise).1 rest
-    (λ q c is passes. gives q c (later e es q c (both_true _ _ rise).0 is) passes))
+    by (p e.1) refl some (λ rest. any_gives p es (and_yes _ _ rise).1 rest
+    (λ q c is passes. gives q c (later e es q c (and_yes _ _ rise).0 is) passes))
   where
     by : (b : Bool) → p e.1 ≡ b → (b || list_any (λ (x : ℕ × Client). p x.1) es) ≡ true
         → (list_any (λ (x : ℕ × Client). p x.1) es ≡ true → A) → A
@@ -317,7 +317,7 @@ module _ (machine : RoomMachine) (nick new : List ℕ) (matched : IsMatched mach
           → has_client (clients_after (Rename nick new) machine.clients) fold ≡ true
       by true c is_new is_old found =
           has_to machine.clients (key nick) (matched.user_has_client (key nick) x there
-          (ap (λ (u : User). u.home) (same_some (with_nick new x) user found) ∙ home))
+          (ap (λ (u : User). u.home) (same_Some (with_nick new x) user found) ∙ home))
           (λ conn name was one. has_from (clients_after (Rename nick new) machine.clients) conn new
           fold (its_client conn name was one) (sym (one_fold fold (key new) is_new)))
       by false true is_new is_old found = cc found
@@ -348,7 +348,7 @@ module _ (machine : RoomMachine) (nick new : List ℕ) (matched : IsMatched mach
           → cond b (Some (with_nick new x)) (cond c None (row machine.room.users (key name)))
           ≡ Some user → user.nick ≡ name
       took new_is true c one is =
-          ap (λ (u : User). u.nick) (sym (same_some (with_nick new x) user is)) ∙ new_is
+          ap (λ (u : User). u.nick) (sym (same_Some (with_nick new x) user is)) ∙ new_is
       took new_is false c two is = let one = ap (λ n. same_fold (key n) (key new)) (sym new_is)
           ∙ same_fold-refl (key new) in absurd cc
 
@@ -401,7 +401,7 @@ mode_matched machine nick change matched = record {
         → x.nick ≡ name) → option_map (with_change change) o ≡ Some user → user.nick ≡ name
     same_nick name user None was is = cc is
     same_nick name user (Some x) was is = ap (λ (u : User). u.nick)
-        (sym (same_some (with_change change x) user is)) ∙ was x refl
+        (sym (same_Some (with_change change x) user is)) ∙ was x refl
 
     still_spelled : (conn : ℕ) (name : List ℕ) (user : User) → get machine.clients conn
         ≡ Some (Registered name) → (b : Bool) → same_fold (key name) (key nick) ≡ b
@@ -419,7 +419,7 @@ mode_matched machine nick change matched = record {
     was_there user home None there is = cc is
     was_there user home (Some x) there is =
         matched.user_has_client (key nick) x there
-        (ap (λ (u : User). u.home) (same_some (with_change change x) user is) ∙ home)
+        (ap (λ (u : User). u.home) (same_Some (with_change change x) user is) ∙ home)
 
     had : (fold : List ℕ) (user : User) → user.home ≡ machine.place.name
         → (b : Bool) → same_fold fold (key nick) ≡ b
@@ -666,7 +666,7 @@ module _ (machine : RoomMachine) (conn : ℕ) (user : User)
           → (b : Bool) → same_fold (key name) (key user.nick) ≡ b
           → cond b (Some user) (row machine.room.users (key name)) ≡ Some other → other.nick ≡ name
       new_spelled name other is true one found =
-          ap (λ (u : User). u.nick) (sym (same_some user other found)) ∙ is
+          ap (λ (u : User). u.nick) (sym (same_Some user other found)) ∙ is
       new_spelled name other is false two found =
           let one = ap (λ n. same_fold (key n) (key user.nick)) (sym is)
           ∙ same_fold-refl (key user.nick) in absurd cc

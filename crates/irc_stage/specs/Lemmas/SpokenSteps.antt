@@ -5,6 +5,9 @@ use Rattle.std.proofs.Common.{◌∷◌, refl, sym, ◌∙◌, ap, subst, option
 use Rattle.std.specs.List.{AllByRecursion, list_all}
 use Rattle.std.specs.Option.{option_map_or}
 use Rattle.std.specs.Cmp.{first_so}
+use Rattle.std.proofs.Math.Bool.{false≢true}
+use Rattle.std.proofs.lemmas.Option.{same_Some}
+use Rattle.irc_names.specs.Lemmas.PlainFacts.{is_some-map}
 use Rattle.irc_line.specs.Messages.{Parsed}
 use Rattle.irc_names.specs.Fold.{key}
 use Rattle.irc_names.specs.Tables.{row}
@@ -19,7 +22,6 @@ use Rattle.irc_room.specs.effect.Effect.TheVariants.{Say, ChangeUser}
 use Rattle.irc_room.specs.Room.{Room}
 use Rattle.irc_room.specs.Effects.{IsPossible, has_user, target_users}
 use Rattle.irc_room.specs.After.{after}
-use Rattle.irc_room.specs.Lemmas.Rows.{is_some_map, not_true, same_some}
 use Rattle.irc_acts.specs.declared.act.Act.{Act}
 use Rattle.irc_acts.specs.declared.act.Act.TheVariants.{Answer, Raw, Do}
 use Rattle.irc_acts.specs.Acts.{effects_among}
@@ -71,8 +73,9 @@ module _ (conn : ℕ) (me : User) where
           → IsRegisteredAs (key me.nick) (client_of (machine_after machine (Rename nick new)) conn)
       by_fold user true one some = named_now (one_fold (key me.nick) (key new) one)
       by_fold user false two some =
-          not_true (sym (ap (λ b. is_some (cond b None (row machine.room.users (key me.nick))))
-          (its_own nick is)) ∙ some)
+          absurd (false≢true
+          (sym (ap (λ b. is_some (cond b None (row machine.room.users (key me.nick))))
+          (its_own nick is)) ∙ some))
 
       by_row : (found : Option User) → row machine.room.users (key nick) ≡ found
           → is_some found ≡ true → Follows (machine_after machine (Rename nick new))
@@ -86,11 +89,11 @@ module _ (conn : ℕ) (me : User) where
       → Follows (machine_after machine (Quit nick text))
   unfolding after
   follows_quit machine nick text is = λ there_now.
-      not_true
+      absurd (false≢true
       (sym (ap (λ b. is_some (cond b None (row machine.room.users (key me.nick))))
       (its_own nick is))
       ∙ ap is_some (sym (row-alter (key nick) (λ _. None) machine.room.users (key me.nick)))
-      ∙ there_now)
+      ∙ there_now))
 
   follows_mode : (machine : RoomMachine) (nick : List ℕ) (change : UserChange) → Follows machine
       → nick ≡ me.nick → Follows (machine_after machine (ChangeUser nick change))
@@ -98,7 +101,7 @@ module _ (conn : ℕ) (me : User) where
   follows_mode machine nick change follows is = λ there_now.
       follows
       (ap (has_user machine.room) (sym is)
-      ∙ sym (is_some_map (with_change change) (row machine.room.users (key nick)))
+      ∙ sym (is_some-map (with_change change) (row machine.room.users (key nick)))
       ∙ ap (λ b. is_some (cond b (option_map (with_change change) (row machine.room.users
       (key nick))) (row machine.room.users (key me.nick)))) (sym (its_own nick is))
       ∙ ap is_some (sym (row-alter (key nick)
@@ -111,17 +114,17 @@ module _ (conn : ℕ) (me : User) where
   follows_on machine (AddUser user) follows possible is = absurd (cc is)
   follows_on machine (Rename nick new) follows possible is =
       follows_renamed machine nick new follows (first_so
-      (has_user machine.room nick) true possible.users_there) (same_some nick me.nick is)
+      (has_user machine.room nick) true possible.users_there) (same_Some nick me.nick is)
   follows_on machine (Quit nick text) follows possible is =
-      follows_quit machine nick text (same_some nick me.nick is)
+      follows_quit machine nick text (same_Some nick me.nick is)
   follows_on machine (ChangeUser nick change) follows possible is =
-      follows_mode machine nick change follows (same_some nick me.nick is)
+      follows_mode machine nick change follows (same_Some nick me.nick is)
   follows_on machine other follows possible is = follows
 
   said_by_it : (machine : RoomMachine) (effect : Effect) → Follows machine
       → IsPossible machine.room effect → IsDoneBy me effect → IsSaidByClient conn machine effect
   said_by_it machine (Say by notice to text) follows possible is =
-      let by_is : by ≡ me.nick = same_some by me.nick is in
+      let by_is : by ≡ me.nick = same_Some by me.nick is in
       subst (λ n. IsRegisteredAs (key n) (client_of machine conn)) (sym by_is)
       (follows (ap (has_user machine.room) (sym by_is) ∙ first_so (has_user machine.room by)
       (list_all (has_user machine.room) (target_users to)) possible.users_there))

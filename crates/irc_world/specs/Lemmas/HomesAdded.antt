@@ -2,8 +2,8 @@
 use Rattle.std.proofs.Common.{◌≡◌, ℕ, zero, suc, true, Some, List, [], ◌∷◌, ◌++◌, ◌⊎◌, ⊎_elim, inl}
 use Rattle.std.proofs.Common.{inr, length, refl, subst}
 use Rattle.std.specs.List.{slice_get}
+use Rattle.std.proofs.lemmas.Option.{same_Some}
 use Rattle.irc_relay.specs.Links.{Name, Link, joined}
-use Rattle.irc_room.specs.Lemmas.Rows.{same_some}
 use Rattle.irc_world.specs.World.{Setting, World, is_server, home_in}
 use Rattle.irc_world.specs.Sound.{HasHomeBy, IsSound}
 
@@ -20,7 +20,7 @@ new_home (first ∷ homes) new = new_home homes new
 
 one_more : (homes : List Name) (new : Name) (earlier : ℕ) (home : Name) → slice_get
     (homes ++ new ∷ []) earlier ≡ Some home → (slice_get homes earlier ≡ Some home) ⊎ (new ≡ home)
-one_more [] new zero home is = inr (same_some new home is)
+one_more [] new zero home is = inr (same_Some new home is)
 one_more [] new (suc earlier) home is = absurd (cc is)
 one_more (first ∷ homes) new zero home is = inl is
 one_more (first ∷ homes) new (suc earlier) home is = one_more homes new earlier home is

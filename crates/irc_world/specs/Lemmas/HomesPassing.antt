@@ -2,6 +2,7 @@
 use Rattle.std.proofs.Common.{◌≡◌, ℕ, Bool, true, false, cond, Option, Some, None, List, refl, sym}
 use Rattle.std.proofs.Common.{◌∙◌, ap, option_map}
 use Rattle.std.specs.Prelude.{⊤}
+use Rattle.std.proofs.lemmas.Option.{same_Some}
 use Rattle.irc_names.specs.Fold.{key}
 use Rattle.irc_names.specs.Tables.{Table, row, alter, moved}
 use Rattle.irc_names.specs.TableLaws.{same_fold, row-alter, row-moved, row-moved_none}
@@ -11,7 +12,6 @@ use Rattle.irc_room.specs.effect.Effect.{Effect}
 use Rattle.irc_room.specs.effect.Effect.TheVariants.{AddUser, Rename, Quit, ChangeUser}
 use Rattle.irc_room.specs.Room.{Room}
 use Rattle.irc_room.specs.After.{after}
-use Rattle.irc_room.specs.Lemmas.Rows.{same_some}
 
 abbrev pub AllPass : (List ℕ → Bool) → Table User → Type 0
 AllPass passes users = (fold : List ℕ) (user : User) → row users fold ≡ Some user
@@ -38,7 +38,7 @@ module _ (passes : List ℕ → Bool) where
       → option_map change o ≡ Some new → passes new.home ≡ true
   changed change home None all new is = absurd (cc is)
   changed change home (Some old) all new is =
-      ap (λ (u : User). passes u.home) (sym (same_some (change old) new is))
+      ap (λ (u : User). passes u.home) (sym (same_Some (change old) new is))
       ∙ (ap passes (home old) ∙ all old refl)
 
   put_elsewhere : (users : Table User) (old new nick : List ℕ)
@@ -53,7 +53,7 @@ module _ (passes : List ℕ → Bool) where
       by : (b c : Bool) → cond b (Some (with_nick nick one)) (cond c None (row users q)) ≡ Some user
           → passes user.home ≡ true
       by true c there = ap (λ (u : User). passes u.home)
-          (sym (same_some (with_nick nick one) user there)) ∙ all old one here
+          (sym (same_Some (with_nick nick one) user there)) ∙ all old one here
       by false true there = absurd (cc there)
       by false false there = all q user there
 
@@ -61,7 +61,7 @@ module _ (passes : List ℕ → Bool) where
       → NewPasses passes effect → AllPass passes (after room effect).users
   unfolding after
   pass_after room (AddUser user) all new = altered room.users (key user.nick) (λ _. Some user) all
-      (λ one is. ap (λ (u : User). passes u.home) (sym (same_some user one is)) ∙ new)
+      (λ one is. ap (λ (u : User). passes u.home) (sym (same_Some user one is)) ∙ new)
   pass_after room (Rename nick new) all _ =
       put_elsewhere room.users (key nick) (key new) new all (row room.users (key nick)) refl
   pass_after room (Quit nick reason) all _ =

@@ -1,7 +1,7 @@
 use Rattle.std.proofs.Common.{Some, None, ◌≡◌, refl, ◌∙◌, ap, append-nil, option_to_list, sym}
 use Rattle.std.proofs.Common.{◌∷◌, [], if◌then◌else◌}
+use Rattle.std.proofs.lemmas.Option.{none-some}
 use Rattle.irc_names.specs.Tables.{row}
-use Rattle.irc_room.specs.Lemmas.Rows.{not_none}
 use Rattle.irc_room.specs.effect.Target.TheVariants.{User}
 use Rattle.irc_stage.specs.Loops.Around.{machine_in}
 use Rattle.irc_stage.specs.Loops.Listening.{conn_as}
@@ -16,9 +16,9 @@ returns-in_default c =
     let well = c.own.ensures.well_formed in
     said_heard machine by_nick c.requires.lent.indexed well c.args.effect.now
     (λ target. target ≡ User c.args.nick.now) c.requires.said c.requires.lent.fit None
-    (λ viewer conn sees at home. not_none conn (sym c.in_default.is ∙ c.number_of.ensures
+    (λ viewer conn sees at home. absurd (none-some conn (sym c.in_default.is ∙ c.number_of.ensures
     ∙ ap (row by_nick) (told_alone machine by_nick c.requires.lent.indexed well c.args.effect.now
-    c.args.nick.now c.requires.said _ sees) ∙ at))
+    c.args.nick.now c.requires.said _ sees) ∙ at)))
     _ refl c.args.out.now.outs _ (sym (append-nil c.args.out.now.outs))
 
 pub returns-then-write_named : goal.returns-then-write_named
