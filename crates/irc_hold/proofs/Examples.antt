@@ -7,9 +7,9 @@ pub lines_are_judged : LinesAreJudged
 unfolding read_of
 lines_are_judged = record {
   asks = refl;
-  asks_in_small = refl;
   wants = refl;
-  asks_again = refl;
+  wants_in_small = refl;
+  wants_again = refl;
   lists = refl;
   no_word = refl;
   ends = refl;
@@ -30,6 +30,7 @@ pub clients_are_held : ClientsAreHeld
 unfolding read_of
 clients_are_held = record {
   begins = (refl, refl);
+  asks = (refl, refl);
   names = (refl, refl);
   keeps = (refl, refl);
   keeps_last = (refl, refl);

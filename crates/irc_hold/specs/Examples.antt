@@ -10,10 +10,10 @@ use Rattle.irc_hold.specs.Holds.{given, held_line}
 use Rattle.irc_hold.specs.Lines.{line_fate}
 
 pub record LinesAreJudged : Type 0 where
-  pub asks : line_fate false (codes "CAP LS 302") ≡ Begins
-  pub asks_in_small : line_fate false (codes "cap :ls") ≡ Begins
+  pub asks : line_fate false (codes "CAP LS 302") ≡ Passes
   pub wants : line_fate false (codes "CAP REQ :sasl") ≡ Begins
-  pub asks_again : line_fate true (codes "CAP LS") ≡ Begins
+  pub wants_in_small : line_fate false (codes "cap :req") ≡ Begins
+  pub wants_again : line_fate true (codes "CAP REQ x") ≡ Begins
   pub lists : line_fate false (codes "CAP LIST") ≡ Passes
   pub no_word : line_fate true (codes "CAP") ≡ Passes
   pub ends : line_fate true (codes "CAP END") ≡ Ends
@@ -24,7 +24,7 @@ pub record LinesAreJudged : Type 0 where
   pub user_at_once : line_fate false (codes "USER u 0 * :Al") ≡ Passes
   pub short_user : line_fate true (codes "USER u 0 *") ≡ Passes
   pub named_user : line_fate true (codes ":al USER u 0 * :Al") ≡ Passes
-  pub named_cap : line_fate false (codes ":al CAP LS") ≡ Passes
+  pub named_cap : line_fate false (codes ":al CAP REQ x") ≡ Passes
   pub named_end : line_fate true (codes ":al CAP END") ≡ Passes
   pub nick : line_fate true (codes "NICK al") ≡ Passes
   pub no_line : line_fate true (codes "  ") ≡ Passes
@@ -46,7 +46,8 @@ Waited held line one behind =
     × (held_line (fate_where held line) (record { items = line }) held ≡ behind)
 
 pub record ClientsAreHeld : Type 0 where
-  pub begins : Waited None (codes "CAP LS 302") (Some (codes "CAP LS 302")) (Some Waits)
+  pub begins : Waited None (codes "CAP REQ x") (Some (codes "CAP REQ x")) (Some Waits)
+  pub asks : Waited None (codes "CAP LS 302") (Some (codes "CAP LS 302")) None
   pub names : Waited (Some Waits) (codes "NICK al") (Some (codes "NICK al")) (Some Waits)
   pub keeps : Waited (Some Waits) (codes "USER u 0 * :Al") None (kept (codes "USER u 0 * :Al"))
   pub keeps_last : Waited (kept (codes "USER u 0 * :Al")) (codes "USER v 0 * :Bo") None

@@ -4,12 +4,12 @@
 -- machine.
 --
 -- What client 1 says, what the machine is given, and what is held of 1 behind it:
---   CAP LS 302            CAP LS 302            USER, which has not come
+--   CAP REQ :sasl         CAP REQ :sasl         USER, which has not come
 --   NICK al               NICK al               the same
 --   USER u 0 * :Al        nothing               USER u 0 * :Al
 --   USER v 0 * :Bo        nothing               USER v 0 * :Bo
 --   CAP END               USER v 0 * :Bo        nothing, and 1 is a user
---   CAP LS                CAP LS                nothing, as 1 is a user
+--   CAP REQ :sasl         CAP REQ :sasl         nothing, as 1 is a user
 use Rattle.std.specs.Prelude.{◌≡◌, ℕ, Bool, true, false, not, ◌&&◌, Option, Some, None, is_some}
 use Rattle.std.specs.Prelude.{Result, Ok, Err, List, if◌then◌else◌, nat_eq}
 use Rattle.std.specs.Option.{is_none, option_map_or}

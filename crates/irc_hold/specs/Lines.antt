@@ -1,11 +1,13 @@
 -- What becomes of a line of a client that is no user yet (IRCv3, "Capability Negotiation": where a
--- client has sent CAP LS or CAP REQ, its registration is not complete before CAP END).
---   CAP LS 302         the machine is given it, and from then on USER is held
+-- client negotiates, its registration is not complete before CAP END). It negotiates once it has
+-- asked for a capability by CAP REQ. Behind CAP LS nothing waits, where IRCv3 has it wait: the list is
+-- empty, and there are programs in use (Konversation 22.12) that send no END behind an empty one.
+--   CAP REQ :sasl      the machine is given it, and from then on USER is held
 --   NICK al            the machine is given it
 --   USER u 0 * :Al     it is kept
 --   CAP END            the machine is given `USER u 0 * :Al` in its place
 -- A line with a prefix, and a USER with fewer than four parameters, is the machine's at once.
-use Rattle.std.specs.Prelude.{ℕ, Bool, ◌&&◌, ◌||◌, is_some, Result, Ok, Err, List, [], codes}
+use Rattle.std.specs.Prelude.{ℕ, Bool, ◌&&◌, is_some, Result, Ok, Err, List, [], codes}
 use Rattle.std.specs.Prelude.{get_or, if◌then◌else◌, length, nat_le}
 use Rattle.irc_line.specs.declared.reading.LineFault.{LineFault}
 use Rattle.irc_line.specs.Messages.{Parsed}
@@ -23,9 +25,9 @@ abbrev pub is_cap : List ℕ → Parsed → Bool
 is_cap word message =
     is_command (codes "CAP") message.command && is_command word (first_word message)
 
--- it asks which capabilities there are, or for some
+-- it asks for capabilities
 abbrev pub starts_negotiation : Parsed → Bool
-starts_negotiation message = is_cap (codes "LS") message || is_cap (codes "REQ") message
+starts_negotiation message = is_cap (codes "REQ") message
 
 -- USER with all that it needs (RFC 2812 section 3.1.3)
 abbrev pub is_whole_user : Parsed → Bool

@@ -49,11 +49,11 @@ fn fate_behind(is_held: bool, message: &Message<'_>) -> Fate
     }
 }
 
-/// Whether a line asks which capabilities there are, or for some.
+/// Whether a line asks for capabilities.
 fn starts_negotiation(message: &Message<'_>) -> bool
     ensures { result ≡ starts_negotiation (parsed message.now) }
 {
-    is_cap(message, b"LS") || is_cap(message, b"REQ")
+    is_cap(message, b"REQ")
 }
 
 /// Whether a line is CAP with this word.

@@ -50,12 +50,12 @@ const TWICE: &str = ":a.net 462 al :Unauthorized command (already registered)\r\
 
 const LEFT: &str = "ERROR :Closing link (bye)\r\nclosed";
 
-static ROWS: [HoldingRow; 15] = [
+static ROWS: [HoldingRow; 16] = [
     // USER waits for CAP END
     HoldingRow {
         negotiations: Negotiations::Awaited,
         steps: &[
-            Step::Says("CAP LS 302", NOT_YET),
+            Step::Says("CAP REQ :sasl", NOT_YET),
             Step::Says("NICK al", ""),
             Step::Says("USER u 0 * :Al", ""),
             Step::Waits,
@@ -67,7 +67,7 @@ static ROWS: [HoldingRow; 15] = [
     HoldingRow {
         negotiations: Negotiations::Off,
         steps: &[
-            Step::Says("CAP LS 302", NOT_YET),
+            Step::Says("CAP REQ :sasl", NOT_YET),
             Step::Says("NICK al", ""),
             Step::Says("USER u 0 * :Al", WELCOME),
             Step::Says("CAP END", UNKNOWN),
@@ -77,9 +77,10 @@ static ROWS: [HoldingRow; 15] = [
     HoldingRow {
         negotiations: Negotiations::Awaited,
         steps: &[
-            Step::Says("cap ls", NOT_YET),
+            Step::Says("cap req :sasl", NOT_YET),
             Step::Says("USER u 0 * :Al", ""),
             Step::Says("user v 0 * :Bo", ""),
+            Step::Says("CAP LS", NOT_YET),
             Step::Says("CAP REQ :sasl", NOT_YET),
             Step::Says("NICK al", ""),
             Step::Says("cap end", WELCOME_V),
@@ -99,7 +100,7 @@ static ROWS: [HoldingRow; 15] = [
     HoldingRow {
         negotiations: Negotiations::Awaited,
         steps: &[
-            Step::Says("CAP LS", NOT_YET),
+            Step::Says("CAP REQ :sasl", NOT_YET),
             Step::Says("NICK al", ""),
             Step::Says("CAP END", NAMED_NOT_YET),
             Step::Says("USER u 0 * :Al", WELCOME),
@@ -120,7 +121,7 @@ static ROWS: [HoldingRow; 15] = [
         steps: &[
             Step::Says("NICK al", ""),
             Step::Says("USER u 0 * :Al", WELCOME),
-            Step::Says("CAP LS", UNKNOWN),
+            Step::Says("CAP REQ :sasl", UNKNOWN),
             Step::Says("USER u 0 * :Al", TWICE),
             Step::Says("CAP END", UNKNOWN),
         ],
@@ -129,9 +130,19 @@ static ROWS: [HoldingRow; 15] = [
     HoldingRow {
         negotiations: Negotiations::Awaited,
         steps: &[
-            Step::Says("CAP LS", NOT_YET),
+            Step::Says("CAP REQ :sasl", NOT_YET),
             Step::Says("USER u 0 *", SHORT),
             Step::Says("CAP END", NOT_YET),
+        ],
+    },
+    // who asks which there are, and for none
+    HoldingRow {
+        negotiations: Negotiations::Awaited,
+        steps: &[
+            Step::Says("CAP LS 302", NOT_YET),
+            Step::Says("NICK al", ""),
+            Step::Says("USER u 0 * :Al", WELCOME),
+            Step::Says("CAP END", UNKNOWN),
         ],
     },
     // other words of CAP, PING and a line of nothing
@@ -149,7 +160,7 @@ static ROWS: [HoldingRow; 15] = [
     HoldingRow {
         negotiations: Negotiations::Awaited,
         steps: &[
-            Step::Says(":al CAP LS", ""),
+            Step::Says(":al CAP REQ :sasl", ""),
             Step::Says("NICK al", ""),
             Step::Says("USER u 0 * :Al", WELCOME),
         ],
@@ -158,7 +169,7 @@ static ROWS: [HoldingRow; 15] = [
     HoldingRow {
         negotiations: Negotiations::Awaited,
         steps: &[
-            Step::Says("CAP LS", NOT_YET),
+            Step::Says("CAP REQ :sasl", NOT_YET),
             Step::Says("USER v 0 * :Bo", ""),
             Step::ComesAgain,
             Step::Says("NICK al", ""),
@@ -169,7 +180,7 @@ static ROWS: [HoldingRow; 15] = [
     HoldingRow {
         negotiations: Negotiations::Awaited,
         steps: &[
-            Step::Says("CAP LS", NOT_YET),
+            Step::Says("CAP REQ :sasl", NOT_YET),
             Step::Says("USER v 0 * :Bo", ""),
             Step::Says("QUIT :bye", LEFT),
             Step::ComesClosed,
@@ -182,7 +193,7 @@ static ROWS: [HoldingRow; 15] = [
     HoldingRow {
         negotiations: Negotiations::Awaited,
         steps: &[
-            Step::Says("CAP LS", NOT_YET),
+            Step::Says("CAP REQ :sasl", NOT_YET),
             Step::Says("NICK al", ""),
             Step::Says("USER u 0 * :Al", ""),
             Step::IsThere,
@@ -193,7 +204,7 @@ static ROWS: [HoldingRow; 15] = [
     HoldingRow {
         negotiations: Negotiations::Awaited,
         steps: &[
-            Step::AnotherSays("CAP LS"),
+            Step::AnotherSays("CAP REQ :sasl"),
             Step::Says("NICK al", ""),
             Step::Says("USER u 0 * :Al", WELCOME),
         ],
@@ -202,8 +213,8 @@ static ROWS: [HoldingRow; 15] = [
     HoldingRow {
         negotiations: Negotiations::Awaited,
         steps: &[
-            Step::AnotherSays("CAP LS"),
-            Step::Says("CAP LS", NOT_YET),
+            Step::AnotherSays("CAP REQ :sasl"),
+            Step::Says("CAP REQ :sasl", NOT_YET),
             Step::Says("NICK al", ""),
             Step::Says("USER u 0 * :Al", ""),
             Step::AnotherSays("USER v 0 * :Bo"),
