@@ -56,7 +56,7 @@ module _ (settings : Settings) (room turns : ℕ) (old new : EngineViewOf MioWir
   ready_said watch (Ok _) same fits appended tells gone = (
     appended,
     subst (λ s. FrontTurns s room old said turns new said_after) same
-      (subst (λ n. FrontTurns watch.settings n old said turns new said_after) fits gone),
+        (subst (λ n. FrontTurns watch.settings n old said turns new said_after) fits gone),
   )
   ready_said watch (Err stop) same fits appended tells gone = cut_by (Err stop) tells gone.1 gone.0
 
@@ -157,7 +157,7 @@ pub opened_served : (turns : ℕ) (first last : EngineViewOf MioWire Front) (tex
 opened_served turns first last text setup held after said between said_after r is opened serves =
     text_served turns first last text setup held after said said_after r is opened.0
     (subst (λ s.
-        Serves is.settings setup.client_room turns first last held after s said_after r) opened.1
+    Serves is.settings setup.client_room turns first last held after s said_after r) opened.1
     serves)
 
 -- a file is not read

@@ -39,7 +39,7 @@ look_said : (first : Settings) (room : ℕ) (old : EngineViewOf MioWire Front)
     (held : Option (List ℕ)) (new : EngineViewOf MioWire Front) (after : Option (List ℕ))
     → Rereads first room old held new after → AreSomeSaid held after
 look_said first room old held new after unasked = nothing_said held
-look_said first room old held new after (unread what end said) =
+look_said first room old held new after (unread what end refused said) =
     line_said _ held end (of_rereading what refl) said
 look_said first room old held new after (reread text setup is engine between end changed said
     restarts) =

@@ -362,12 +362,17 @@ AreRestartsSaid (key ∷ keys) first now held after =
     × IsRestartSaid (differs_at key first now) (key_name key) held between
     × AreRestartsSaid keys first now between after
 
+-- something else came of it than that it was read
+abbrev pub is_refusal : Rereading → Bool
+is_refusal Taken = false
+is_refusal what = true
+
 -- What comes of a look: nothing was asked for; or the file is not read again, nothing has changed,
 -- and it is said why; or it is, and some text sets up what is changed.
 pub data Rereads (first : Settings) (room : ℕ) (old : EngineViewOf MioWire Front)
     (held : Option (List ℕ)) : EngineViewOf MioWire Front → Option (List ℕ) → Type 0 where
   unasked : Rereads first room old held old held
-  unread : (what : Rereading) (after : Option (List ℕ))
+  unread : (what : Rereading) (after : Option (List ℕ)) → is_refusal what ≡ true
       → IsFrontSaid (rereading_line what) held after → Rereads first room old held old after
   reread : (text : List ℕ) (setup : Setup) (is : IsTextOf text setup)
       (new : EngineViewOf MioWire Front) (between after : Option (List ℕ))

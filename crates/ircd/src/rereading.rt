@@ -1,8 +1,8 @@
 //! The configuration is read again while the server runs, where that is asked for.
-ghost use Rattle.std.specs.Prelude.{◌≡◌, IfOk};
+ghost use Rattle.std.specs.Prelude.{◌≡◌, true, IfErr, IfOk};
 ghost use Rattle.irc_engine.specs.EngineView.{engine_view};
 ghost use Rattle.irc_settings.specs.Fixed.{differs_at, key_name};
-ghost use Rattle.ircd.specs.Serving.{motd_file, AreRestartsSaid, Changes, HasMotd, IsReadAs};
+ghost use Rattle.ircd.specs.Serving.{is_refusal, motd_file, AreRestartsSaid, Changes, HasMotd, IsReadAs};
 ghost use Rattle.ircd.specs.Serving.{IsRestartSaid, Rereads};
 ghost use Rattle.ircd.specs.Loops.Rereading.{IsChangeOf, IsWatchOf};
 
@@ -16,7 +16,7 @@ use irc_journal::{Rereading, say_rereading, say_restart};
 use irc_settings::{FixedKey, Settings, fixed_keys};
 use irc_sockets::{Limits, MioWire};
 use std::alloc::{AllocError, Global};
-use std::fs::{Files, read_to_string, remove_file};
+use std::fs::{Files, exists, read_to_string, remove_file};
 use std::io::{ErrorKind, Write};
 use std::mem::replace;
 
@@ -87,17 +87,15 @@ pub(crate) fn look<T: AllocGlobal + Files, E: Write>(
     ensures { Rereads watch.now.settings watch.now.client_room (engine_view engine.old)
         (E.contents errors.old) (engine_view engine.new) (E.contents errors.new) }
 {
-    match remove_file(rt, watch.request.as_str()) {
-        Ok(()) => {
-            *is_stuck = false;
-            read_again(rt, watch, engine, errors);
-        }
-        Err(error) if error.kind() == ErrorKind::NotFound => *is_stuck = false,
-        Err(_) => {
-            if !replace(is_stuck, true) {
-                say_rereading(Rereading::Stuck, errors);
-            }
-        }
+    if !exists(rt, watch.request.as_str()).unwrap_or(false) {
+        *is_stuck = false;
+        return;
+    }
+    if remove_file(rt, watch.request.as_str()).is_ok() {
+        *is_stuck = false;
+        read_again(rt, watch, engine, errors);
+    } else if !replace(is_stuck, true) {
+        say_rereading(Rereading::Stuck, errors);
     }
 }
 
@@ -123,7 +121,8 @@ fn read_again<T: AllocGlobal + Files, E: Write>(
 
 /// What the configuration says now, and what of it changes.
 fn change_in<T: AllocGlobal + Files>(rt: &T, watch: &Watch) -> Result<(Settings, Change), Rereading>
-    ensures { IfOk result (λ read. IsChangeOf watch.now.client_room read.0 read.1) }
+    ensures read { IfOk result (λ read. IsChangeOf watch.now.client_room read.0 read.1) }
+    ensures refused { IfErr result (λ why. is_refusal why ≡ true) }
 {
     let text = text_of(rt, watch)?;
     let (settings, setup) = setup_in(rt.alloc(), text.as_str())?;
@@ -136,7 +135,9 @@ fn change_in<T: AllocGlobal + Files>(rt: &T, watch: &Watch) -> Result<(Settings,
 }
 
 /// All that the file holds.
-fn text_of<T: AllocGlobal + Files>(rt: &T, watch: &Watch) -> Result<String, Rereading> {
+fn text_of<T: AllocGlobal + Files>(rt: &T, watch: &Watch) -> Result<String, Rereading>
+    ensures { IfErr result (λ why. is_refusal why ≡ true) }
+{
     match read_to_string(rt, watch.file) {
         Ok(text) => Ok(text),
         Err(error) if error.kind() == ErrorKind::OutOfMemory => Err(Rereading::NoMemory),
@@ -146,7 +147,8 @@ fn text_of<T: AllocGlobal + Files>(rt: &T, watch: &Watch) -> Result<String, Rere
 
 /// What a text says, and what that sets up.
 fn setup_in(alloc: Global, text: &str) -> Result<(Settings, Setup), Rereading>
-    ensures { IfOk result (λ read. IsReadAs text.now read.0 read.1) }
+    ensures read { IfOk result (λ read. IsReadAs text.now read.0 read.1) }
+    ensures refused { IfErr result (λ why. is_refusal why ≡ true) }
 {
     match read_setup(alloc, text) {
         Ok(read) => Ok(read),
@@ -161,7 +163,8 @@ fn motd_of<T: AllocGlobal + Files>(
     setup: &Setup,
     room: usize,
 ) -> Result<Option<Motd>, Rereading>
-    ensures { IfOk result (HasMotd (motd_file setup.now) room) }
+    ensures has { IfOk result (HasMotd (motd_file setup.now) room) }
+    ensures refused { IfErr result (λ why. is_refusal why ≡ true) }
 {
     match optional_motd(rt, setup.motd.as_ref(), room) {
         Ok(motd) => Ok(motd),
