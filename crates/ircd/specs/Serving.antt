@@ -385,8 +385,8 @@ pub data FrontTurns (first : Settings) (room : ℕ) (old : EngineViewOf MioWire 
     (held : Option (List ℕ)) : ℕ → EngineViewOf MioWire Front → Option (List ℕ) → Type 0 where
   no_turn : FrontTurns first room old held 0 old held
   one_more : (n : ℕ) (between turned new : EngineViewOf MioWire Front)
-      (then told after : Option (List ℕ)) → FrontTurns first room old held n between then
-      → FrontTurn between then turned told (Ok tt) → Rereads first room turned told new after
+      (said told after : Option (List ℕ)) → FrontTurns first room old held n between said
+      → FrontTurn between said turned told (Ok tt) → Rereads first room turned told new after
       → FrontTurns first room old held (n + 1) new after
 
 -- `ready` was printed, all turns were taken, and behind each what there was to tell was said; else

@@ -1,7 +1,7 @@
 -- The neighbour on a link is told of the servers of this side.
 use Rattle.std.proofs.Common.{◌≡◌, ◌≢◌, inl, inr, ℕ, zero, suc, Bool, true, false, cond, not, ◌&&◌}
 use Rattle.std.proofs.Common.{◌||◌, List, [], ◌∷◌, map, filter, refl, sym, ◌∙◌, ap, subst}
-use Rattle.std.proofs.lemmas.Bool.{and_parts, and_from, eqb-true, eq-eqb, not-true}
+use Rattle.std.proofs.lemmas.Bool.{and_parts, and_from, eqb-true, eq-eqb, not-true, true≢false}
 use Rattle.std.specs.Cmp.Lexicographic.{bytes_decides}
 use Rattle.std.specs.List.{fold, insert, list_any, prefix_len}
 use Rattle.std.proofs.Math.Bool.{or-false}
@@ -102,9 +102,9 @@ module _ (s : ItemSetting) (links : List Link) (routes : Name → Known) (t u x 
       let together : AreJoined links x t = subst (λ n. AreJoined links n t) named says.joined in
       let two : x ≢ t = subst (λ n. n ≢ t) named says.apart in
       let not_over : toward links t x ≡ u → ⊥ =
-      λ way. both_ways (is_behind (number s u) at.value) (not-true (is_behind (number s u) at.value)
-      parts.0) (eq-eqb at.value.link (number s u) (ap (λ (sh : Shape). sh.link) says.shape
-      ∙ ap (λ n. index_in s.names (toward links t n)) named ∙ ap (index_in s.names) way)) in
+      λ way. true≢false (sym (eq-eqb at.value.link (number s u)
+      (ap (λ (sh : Shape). sh.link) says.shape ∙ ap (λ n. index_in s.names (toward links t n)) named
+      ∙ ap (index_in s.names) way)) ∙ not-true (is_behind (number s u) at.value) parts.0) in
       and_from _ _ (joined_test left x t (this_side together not_over))
       (ap not (same_unless x t two))
     where
