@@ -2,5 +2,3 @@ mod ClosedLines
 mod MotdFound
 mod SettingUp
 mod Ready
-mod ReadAgain
-mod TurnsTaken

@@ -3,14 +3,16 @@ use Rattle.std.proofs.Common.{◌≡◌, ◌∙◌, ℕ, Option, Result, Ok, Err
 use Rattle.std.proofs.Common.{refl, sym, subst}
 use Rattle.std.specs.Prelude.{⊤}
 use Rattle.std.specs.Io.KnownBytes.{Appends}
+use Rattle.irc_outbox.specs.Calls.{Call}
 use Rattle.irc_sockets.specs.declared.mio_wire.MioWire.{MioWire}
+use Rattle.irc_engine.specs.declared.engine.EngineFault.{EngineFault}
 use Rattle.irc_engine.specs.EngineView.{EngineViewOf}
+use Rattle.irc_engine.specs.Telling.{RunsTellingBy}
+use Rattle.irc_engine.specs.Laws.Tellings.{runs_tell_some}
 use Rattle.irc_journal.specs.Saying.{AreSomeSaid}
 use Rattle.irc_endings.specs.declared.fault.Stop.{Stop}
 use Rattle.irc_endings.specs.declared.fault.Stop.TheVariants.{Usage, BadScript, BadConfiguration}
 use Rattle.irc_endings.specs.declared.fault.Stop.TheVariants.{Failed}
-use Rattle.irc_settings.specs.declared.settings.Settings.{Settings}
-use Rattle.ircd.specs.declared.rereading.Watch.{Watch}
 use Rattle.ircd.specs.declared.setup.Setup.{Setup}
 use Rattle.ircd.specs.Loops.Manners.{FindsManner}
 use Rattle.ircd.specs.Loops.Turns.{IsOfFile, TakesTurns}
@@ -18,7 +20,7 @@ use Rattle.std.specs.declared.net.socket_addr.SocketAddr.{SocketAddr}
 use Rattle.ircd.specs.ClosedDoors.{SaysClosed, SaysFault}
 use Rattle.ircd.specs.Serving.{IsCutShort, IsFailed, IsOpened, IsReadSetup, IsTextOf, IsUnopened}
 use Rattle.ircd.specs.Serving.{Serves, ServesFile, ServesText, listening_of}
-use Rattle.ircd.specs.Serving.{Front, FrontTurns}
+use Rattle.ircd.specs.Serving.{front_dues, front_server, Front, IsAnswered}
 use Rattle.ircd.specs.Serving.IsCutShort.{printing, unopened, unprinted}
 use Rattle.ircd.specs.Serving.IsFailed.{failed_opening, failed_serving}
 use Rattle.ircd.specs.Serving.{bad_motd, bad_text}
@@ -39,33 +41,37 @@ nothing_said : (held : Option (List ℕ)) → AreSomeSaid held held
 nothing_said held = ([], refl)
 
 -- `ready` is cut short
-module _ (settings : Settings) (room turns : ℕ) (old new : EngineViewOf MioWire Front)
-    (held after said said_after : Option (List ℕ)) where
+module _ {W : Type 0} (is_after : W → List Call → Type 0) (turns : ℕ)
+    (old new : EngineViewOf W Front) (held after said said_after : Option (List ℕ)) where
   cut_by : (r : Result (Unit {0}) Stop) → Wrote held after ready_text
       → AreSomeSaid said said_after → IsErrAnd r (λ stop. stop ≡ Failed)
-      → Serves settings room turns old new held after said said_after r
+      → Serves is_after turns old new held after said said_after r
   cut_by (Ok _) tells some failed = absurd failed
   cut_by (Err stop) tells some failed = subst (λ s.
-      Serves settings room turns old new held after said said_after (Err s)) (sym failed) (tells, some)
+      Serves is_after turns old new held after said said_after (Err s)) (sym failed) (tells, some)
 
   -- it was printed, and turns were taken
-  pub ready_said : (watch : Watch) (r : Result (Unit {0}) Stop) → watch.settings ≡ settings
-      → watch.client_room ≡ room → Appends held after ready_text → Wrote held after ready_text
-      → TakesTurns watch old turns new said said_after r
-      → Serves settings room turns old new held after said said_after r
-  ready_said watch (Ok _) same fits appended tells gone = (
-    appended,
-    subst (λ s. FrontTurns s room old said turns new said_after) same
-        (subst (λ n. FrontTurns watch.settings n old said turns new said_after) fits gone),
-  )
-  ready_said watch (Err stop) same fits appended tells gone = cut_by (Err stop) tells gone.1 gone.0
+  pub ready_said : (r : Result (Unit {0}) Stop) → Appends held after ready_text
+      → Wrote held after ready_text → TakesTurns is_after old turns new said said_after r
+      → Serves is_after turns old new held after said said_after r
+  ready_said (Ok _) appended tells gone = (appended, gone)
+  ready_said (Err stop) appended tells gone = cut_by (Err stop) tells gone.1 gone.0
 
-pub ready_cut : (settings : Settings) (room turns : ℕ) (old new : EngineViewOf MioWire Front)
-    (held after said : Option (List ℕ)) (r : Result (Unit {0}) Stop) → Wrote held after ready_text
-    → IsErrAnd r (λ stop. stop ≡ Failed)
-    → Serves settings room turns old new held after said said r
-ready_cut settings room turns old new held after said r tells failed =
-    cut_by settings room turns old new held after said said r tells (nothing_said said) failed
+pub ready_cut : {W : Type 0} (is_after : W → List Call → Type 0) (turns : ℕ)
+    (old new : EngineViewOf W Front) (held after said : Option (List ℕ))
+    (r : Result (Unit {0}) Stop) → Wrote held after ready_text → IsErrAnd r (λ stop. stop ≡ Failed)
+    → Serves is_after turns old new held after said said r
+ready_cut is_after turns old new held after said r tells failed =
+    cut_by is_after turns old new held after said said r tells (nothing_said said) failed
+
+-- a turn is not taken
+pub turns_stopped : {W : Type 0} (is_after : W → List Call → Type 0) (old : EngineViewOf W Front)
+    (turns : ℕ) (new : EngineViewOf W Front) (said said_after : Option (List ℕ))
+    (r : Result (Unit {0}) EngineFault) → RunsTellingBy is_after front_server IsAnswered front_dues
+    old said turns new said_after r
+    → TakesTurns is_after old turns new said said_after (Err Failed)
+turns_stopped is_after old turns new said said_after r runs =
+    (refl, runs_tell_some is_after old said turns new said_after r runs)
 
 -- a text sets nothing up
 stopped_by : (text : List ℕ) (turns : ℕ) (stop : Stop) (held said : Option (List ℕ))
@@ -125,8 +131,8 @@ not_opened text turns (Err e) stop setup held said said_after is none failed =
 -- what it sets up is served
 text_served : (turns : ℕ) (first last : EngineViewOf MioWire Front) (text : List ℕ)
     (setup : Setup) (held after said said_after : Option (List ℕ)) (r : Result (Unit {0}) Stop)
-    → (is : IsTextOf text setup) → IsOpened setup first
-    → Serves is.settings setup.client_room turns first last held after said said_after r
+    → IsTextOf text setup → IsOpened setup first
+    → Serves (λ wire calls. ⊤) turns first last held after said said_after r
     → ServesText text turns r held after said said_after
 text_served turns first last text setup held after said said_after (Ok _) is opened serves =
     record {
@@ -150,14 +156,13 @@ text_served turns first last text setup held after said said_after
 -- the same, where nothing was said before
 pub opened_served : (turns : ℕ) (first last : EngineViewOf MioWire Front) (text : List ℕ)
     (setup : Setup) (held after said between said_after : Option (List ℕ))
-    (r : Result (Unit {0}) Stop) → (is : IsTextOf text setup)
+    (r : Result (Unit {0}) Stop) → IsTextOf text setup
     → IsOpened setup first × (between ≡ said)
-    → Serves is.settings setup.client_room turns first last held after between said_after r
+    → Serves (λ wire calls. ⊤) turns first last held after between said_after r
     → ServesText text turns r held after said said_after
 opened_served turns first last text setup held after said between said_after r is opened serves =
     text_served turns first last text setup held after said said_after r is opened.0
-    (subst (λ s.
-    Serves is.settings setup.client_room turns first last held after s said_after r) opened.1
+    (subst (λ s. Serves (λ wire calls. ⊤) turns first last held after s said_after r) opened.1
     serves)
 
 -- a file is not read

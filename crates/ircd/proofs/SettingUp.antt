@@ -24,7 +24,7 @@ use Rattle.ircd.specs.Loops.SettingUp.{FindsAsks, FindsPassword}
 use Rattle.ircd.specs.Loops.SettingUp.{FindsCallee, FindsCallees, FindsName, FindsOptional}
 use Rattle.ircd.specs.Loops.SettingUp.{FindsRanges}
 use Rattle.ircd.specs.Serving.{AreCalled, Configures, IsAddress, IsNoAddress, IsReadSetup}
-use Rattle.ircd.specs.Serving.{IsReadAs, IsRefused, IsSetUp, IsSomeUncalled, SetsUp}
+use Rattle.ircd.specs.Serving.{IsRefused, IsSomeUncalled, SetsUp}
 use Rattle.ircd.specs.Serving.{nobody, uncalled, called, no_address, no_name, this, later, links}
 use Rattle.ircd.specs.Serving.{asked, deny, no_password, proxies, server, refused}
 use Rattle.ircd.specs.Serving.IsRefused.{called as uncallable}
@@ -203,26 +203,14 @@ server_refused settings config r DoubleName configures made failed =
 server_refused settings config r Memory configures made failed = memory_out settings r failed
 
 -- what the settings of a text set up, the text does
-pub read_up : (text : List ℕ) (settings : Settings) (setup : Setup)
-    → AreSettingsOf text (Ok settings) → IsSetUp settings setup → IsReadAs text settings setup
-read_up text settings setup read sets = record {
-  is_text_of = record { settings = settings; read = read; is_set_up = sets };
-  settings_are = refl;
-}
-
-not_up : (text : List ℕ) (settings : Settings) (stop : Stop) → AreSettingsOf text (Ok settings)
-    → SetsUp settings (Err stop) → IsReadSetup text (Err stop)
-not_up text settings BadConfiguration read sets = refused settings read sets
-not_up text settings Failed read sets = tt
-not_up text settings Usage read sets = absurd sets
-not_up text settings (BadScript line) read sets = absurd sets
-
-pub not_read_up : (text : List ℕ) (settings : Settings) (stop : Stop)
-    (r : Result (Settings × Setup) Stop) → AreSettingsOf text (Ok settings)
-    → SetsUp settings (Err stop) → IsErrAnd r (λ e. e ≡ stop) → IsReadSetup text r
-not_read_up text settings stop (Ok _) read sets failed = absurd failed
-not_read_up text settings stop (Err e) read sets failed =
-    subst (λ s. IsReadSetup text (Err s)) (sym failed) (not_up text settings stop read sets)
+pub read_up : (text : List ℕ) (settings : Settings) (r : Result Setup Stop)
+    → AreSettingsOf text (Ok settings) → SetsUp settings r → IsReadSetup text r
+read_up text settings (Ok setup) read sets =
+    record { settings = settings; read = read; is_set_up = sets }
+read_up text settings (Err BadConfiguration) read sets = refused settings read sets
+read_up text settings (Err Failed) read sets = tt
+read_up text settings (Err Usage) read sets = absurd sets
+read_up text settings (Err (BadScript line)) read sets = absurd sets
 
 -- ---- what clients are asked
 

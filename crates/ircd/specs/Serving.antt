@@ -1,38 +1,32 @@
 -- What a configuration sets up, and how serving ends.
 use Rattle.std.specs.Prelude.{◌≡◌, ℕ, Bool, true, false, Option, Some, None, Result, Ok, Err, List}
 use Rattle.std.specs.Prelude.{[], ◌∷◌, map, option_map, is_some, string_bytes, ⊤}
-use Rattle.std.specs.Prelude.{◌&&◌, ◌+◌, if◌then◌else◌}
+use Rattle.std.specs.Prelude.{◌&&◌, if◌then◌else◌}
 use Rattle.std.specs.List.{filter_map}
 use Rattle.std.specs.Str.Lines.{lines}
 use Rattle.std.specs.Io.KnownBytes.{Appends}
 use Rattle.std.specs.Net.Grammar.{IsSocketText}
 use Rattle.std.specs.declared.net.socket_addr.SocketAddr.{SocketAddr}
+use Rattle.irc_outbox.specs.Calls.{Call}
 use Rattle.irc_names.specs.Names.{IsServer, is_server}
 use Rattle.irc_settings.specs.declared.settings.Settings.{Settings}
 use Rattle.irc_settings.specs.declared.settings.LinesPace.{LinesPace as SettingsPace}
 use Rattle.irc_settings.specs.declared.settings.PeerSettings.{PeerSettings}
 use Rattle.irc_settings.specs.Configuration.{AreSettingsOf, is_configuration}
-use Rattle.irc_settings.specs.declared.fixed.FixedKey.{FixedKey}
-use Rattle.irc_settings.specs.Fixed.{differs_at, fixed_keys, key_name}
 use Rattle.irc_server.specs.declared.config.Config.{Config}
 use Rattle.irc_server.specs.Configuring.{config_fault, made_view}
 use Rattle.irc_stage.specs.View.{KnownPeer, View, known_peer}
 use Rattle.irc_engine.specs.Machines.{never_due, Dues, Handles}
 use Rattle.irc_engine.specs.Turning.{IsNew}
 use Rattle.irc_engine.specs.EngineView.{EngineViewOf}
-use Rattle.irc_engine.specs.declared.engine.EngineFault.{EngineFault}
-use Rattle.irc_engine.specs.Altering.{IsAltered}
-use Rattle.irc_engine.specs.Telling.{TellsTurnedBy}
-use Rattle.irc_journal.specs.declared.rereading.Rereading.{Rereading}
-use Rattle.irc_journal.specs.declared.rereading.Rereading.TheVariants.{Taken}
-use Rattle.irc_journal.specs.Rereadings.{rereading_line, restart_line}
-use Rattle.irc_journal.specs.Saying.{AreSomeSaid, IsFrontSaid}
+use Rattle.irc_engine.specs.Telling.{ToldTurnsBy}
+use Rattle.irc_journal.specs.Saying.{AreSomeSaid}
 use Rattle.irc_door.specs.declared.door.Door.{Door}
 use Rattle.irc_door.specs.declared.manner.Manner.{Manner}
 use Rattle.irc_door.specs.declared.manner.Programs.{Programs}
 use Rattle.irc_door.specs.declared.manner.Programs.TheVariants.{Off, Usual}
 use Rattle.irc_door.specs.declared.motd.Motd.{Motd}
-use Rattle.irc_door.specs.Doors.{announcing, dues_by, server_behind, IsTurned}
+use Rattle.irc_door.specs.Doors.{dues_by, server_behind, IsTurned}
 use Rattle.irc_door.specs.MessagesOfTheDay.{has_room, is_message, lines_of}
 use Rattle.irc_doorman.specs.declared.asks.Asks.{Asks}
 use Rattle.irc_doorman.specs.declared.doorman.Doorman.{Doorman}
@@ -50,10 +44,10 @@ use Rattle.irc_entrance.specs.Ranges.{AreRanges, IsSomeNoRange}
 use Rattle.irc_turns.specs.Spreads.{name_spread}
 use Rattle.irc_turns.specs.declared.allowance.LinesPace.{LinesPace}
 use Rattle.irc_sockets.specs.declared.calls.Callee.{Callee}
+use Rattle.irc_sockets.specs.declared.limits.Limits.{Limits}
 use Rattle.irc_sockets.specs.declared.listening.Listening.{Listening}
 use Rattle.irc_sockets.specs.declared.mio_wire.MioWire.{MioWire}
-use Rattle.irc_sockets.specs.declared.limits.Limits.{Limits}
-use Rattle.irc_sockets.specs.Listening.{IsLimited, ListensAt}
+use Rattle.irc_sockets.specs.Listening.{ListensAt}
 use Rattle.irc_endings.specs.declared.fault.Stop.{Stop}
 use Rattle.irc_endings.specs.declared.fault.Stop.TheVariants.{Usage, BadScript, BadConfiguration}
 use Rattle.irc_endings.specs.declared.fault.Stop.TheVariants.{Failed}
@@ -160,17 +154,16 @@ pub record IsSetUp (settings : Settings) (setup : Setup) : Type 0 where
   pub server_is : setup.server ≡ Some (made_view config)
   pub clients : IsSocketText (string_bytes settings.listen) setup.clients
   pub links : IsAddress (option_map string_bytes settings.listen_links) setup.links
-  pub deny : AreRanges (map string_bytes settings.deny.items) setup.limits.deny.items
-  pub proxies : AreRanges (map string_bytes settings.proxies.items) setup.limits.proxies.items
+  pub deny : AreRanges (map string_bytes settings.deny.items) setup.deny.items
+  pub proxies : AreRanges (map string_bytes settings.proxies.items) setup.proxies.items
   pub called : AreCalled settings.peers.items setup.callees.items
   pub plain : setup.plain.items ≡ plain_names settings.peers.items
   pub spread : setup.spread ≡ name_spread (string_bytes settings.name)
-  pub connections_per_address : setup.limits.connections_per_address
-      ≡ settings.connections_per_address
+  pub connections_per_address : setup.connections_per_address ≡ settings.connections_per_address
   pub name_within : setup.name_within ≡ settings.name_within
-  pub links_per_address : setup.limits.links_per_address ≡ settings.links_per_address
+  pub links_per_address : setup.links_per_address ≡ settings.links_per_address
   pub register_within : setup.register_within ≡ settings.register_within
-  pub pace : setup.limits.pace ≡ pace_set settings.pace
+  pub pace : setup.pace ≡ pace_set settings.pace
   pub programs : setup.programs ≡ programs_set settings.programs
   pub motd : option_map string_bytes setup.motd ≡ option_map string_bytes settings.motd
   pub asks : AreAsksOf settings setup.asks
@@ -210,13 +203,8 @@ pub data IsBadText (text : List ℕ) : Type 0 where
   refused : (settings : Settings) → AreSettingsOf text (Ok settings) → IsRefused settings
       → IsBadText text
 
--- with the settings themselves
-pub record IsReadAs (text : List ℕ) (settings : Settings) (setup : Setup) : Type 0 where
-  pub is_text_of : IsTextOf text setup
-  pub settings_are : is_text_of.settings ≡ settings
-
-abbrev pub IsReadSetup : List ℕ → Result (Settings × Setup) Stop → Type 0
-IsReadSetup text (Ok read) = IsReadAs text read.0 read.1
+abbrev pub IsReadSetup : List ℕ → Result Setup Stop → Type 0
+IsReadSetup text (Ok setup) = IsTextOf text setup
 IsReadSetup text (Err BadConfiguration) = IsBadText text
 IsReadSetup text (Err Failed) = ⊤
 IsReadSetup text (Err Usage) = ⊥
@@ -252,6 +240,17 @@ pub data IsUnserved (text : List ℕ) : Type 0 where
   bad_motd : (setup : Setup) → IsTextOf text setup → is_some (motd_file setup) ≡ true
       → IsUnserved text
 
+-- who comes in to a server that was set up, and how much of each is taken
+abbrev pub limits_of : Setup → Limits
+limits_of setup =
+    record {
+      connections_per_address = setup.connections_per_address;
+      links_per_address = setup.links_per_address;
+      pace = setup.pace;
+      deny = setup.deny;
+      proxies = setup.proxies;
+    }
+
 -- where a server that was set up is to listen, who is let in there, what the connections of an
 -- address may be, and how much may wait for one
 abbrev pub listening_of : Setup → Listening
@@ -263,7 +262,7 @@ listening_of setup =
       link_room = setup.link_room;
       name_within = setup.name_within;
       register_within = setup.register_within;
-      limits = setup.limits;
+      limits = limits_of setup;
     }
 
 -- What serves: a door in front of a doorman in front of a hold in front of a layer around a server.
@@ -326,84 +325,26 @@ pub data IsUnopened (setup : Setup) (errors errors_after : Option (List ℕ)) : 
   links_closed : (address : SocketAddr) → setup.links ≡ Some address
       → SaysClosed address errors errors_after → IsUnopened setup errors errors_after
 
--- one turn of an engine with them, with what is said behind it
-abbrev pub FrontTurn : EngineViewOf MioWire Front → Option (List ℕ) → EngineViewOf MioWire Front
-    → Option (List ℕ) → Result (Unit {0}) EngineFault → Type 0
-FrontTurn old held new after result = TellsTurnedBy (λ wire calls. ⊤) front_server IsAnswered
-    front_dues old new held after result
-
--- ---- what is read again
-
--- What of a configuration changes while the server runs: who comes in, and how much of each is
--- taken, and the message of the day.
-abbrev pub Changes : Limits → Option Motd → MioWire → Front → MioWire → Front → Type 0
-Changes limits motd wire door wire_after door_after =
-    IsLimited limits wire wire_after × (door_after ≡ announcing motd door)
-
--- it is changed as was set up; an outbox of so many bytes has room for the message
-pub record IsChanged (setup : Setup) (room : ℕ) (old new : EngineViewOf MioWire Front) :
-    Type 0 where
-  pub motd : Option Motd
-  pub has_motd : HasMotd (motd_file setup) room motd
-  pub altered :
-      IsAltered (λ wire calls. ⊤) front_server (Changes setup.limits motd) old new
-
--- where something else stands at a key now than the server has, it is said that it wants a restart
-abbrev pub IsRestartSaid : Bool → List ℕ → Option (List ℕ) → Option (List ℕ) → Type 0
-IsRestartSaid false key held after = after ≡ held
-IsRestartSaid true key held after = IsFrontSaid (restart_line key) held after
-
--- so it is said of each of these keys
-abbrev pub AreRestartsSaid : List FixedKey → Settings → Settings → Option (List ℕ)
-    → Option (List ℕ) → Type 0
-AreRestartsSaid [] first now held after = after ≡ held
-AreRestartsSaid (key ∷ keys) first now held after =
-    (between : Option (List ℕ))
-    × IsRestartSaid (differs_at key first now) (key_name key) held between
-    × AreRestartsSaid keys first now between after
-
--- something else came of it than that it was read
-abbrev pub is_refusal : Rereading → Bool
-is_refusal Taken = false
-is_refusal what = true
-
--- What comes of a look: nothing was asked for; or the file is not read again, nothing has changed,
--- and it is said why; or it is, and some text sets up what is changed.
-pub data Rereads (first : Settings) (room : ℕ) (old : EngineViewOf MioWire Front)
-    (held : Option (List ℕ)) : EngineViewOf MioWire Front → Option (List ℕ) → Type 0 where
-  unasked : Rereads first room old held old held
-  unread : (what : Rereading) (after : Option (List ℕ)) → is_refusal what ≡ true
-      → IsFrontSaid (rereading_line what) held after → Rereads first room old held old after
-  reread : (text : List ℕ) (setup : Setup) (is : IsTextOf text setup)
-      (new : EngineViewOf MioWire Front) (between after : Option (List ℕ))
-      → IsChanged setup room old new → IsFrontSaid (rereading_line Taken) held between
-      → AreRestartsSaid fixed_keys first is.settings between after
-      → Rereads first room old held new after
-
--- so many turns, with what is said behind each, and a look behind it or none
-pub data FrontTurns (first : Settings) (room : ℕ) (old : EngineViewOf MioWire Front)
-    (held : Option (List ℕ)) : ℕ → EngineViewOf MioWire Front → Option (List ℕ) → Type 0 where
-  no_turn : FrontTurns first room old held 0 old held
-  one_more : (n : ℕ) (between turned new : EngineViewOf MioWire Front)
-      (said told after : Option (List ℕ)) → FrontTurns first room old held n between said
-      → FrontTurn between said turned told (Ok tt) → Rereads first room turned told new after
-      → FrontTurns first room old held (n + 1) new after
+-- so many turns of an engine with them, with what is said behind each
+abbrev pub FrontTurns : {W : Type 0} → (W → List Call → Type 0) → EngineViewOf W Front
+    → Option (List ℕ) → ℕ → EngineViewOf W Front → Option (List ℕ) → Type 0
+FrontTurns is_after old held turns new after =
+    ToldTurnsBy is_after front_server IsAnswered front_dues old held turns new after
 
 -- `ready` was printed, all turns were taken, and behind each what there was to tell was said; else
 -- a front of `ready` was printed, the program failed, and what was said is lines of the journal
-abbrev pub Serves : Settings → ℕ → ℕ → EngineViewOf MioWire Front → EngineViewOf MioWire Front
+abbrev pub Serves : {W : Type 0} → (W → List Call → Type 0) → ℕ → EngineViewOf W Front
+    → EngineViewOf W Front
     → Option (List ℕ) → Option (List ℕ) → Option (List ℕ) → Option (List ℕ) → Result (Unit {0}) Stop
     → Type 0
-Serves settings room turns old new printed printed_after errors errors_after (Ok _) =
+Serves is_after turns old new printed printed_after errors errors_after (Ok _) =
     Appends printed printed_after ready_text
-    × FrontTurns settings room old errors turns new errors_after
-Serves settings room turns old new printed printed_after errors errors_after (Err Failed) =
+    × FrontTurns is_after old errors turns new errors_after
+Serves is_after turns old new printed printed_after errors errors_after (Err Failed) =
     Wrote printed printed_after ready_text × AreSomeSaid errors errors_after
-Serves settings room turns old new printed printed_after errors errors_after
-    (Err BadConfiguration) = ⊥
-Serves settings room turns old new printed printed_after errors errors_after (Err Usage) = ⊥
-Serves settings room turns old new printed printed_after errors errors_after
-    (Err (BadScript line)) = ⊥
+Serves is_after turns old new printed printed_after errors errors_after (Err BadConfiguration) = ⊥
+Serves is_after turns old new printed printed_after errors errors_after (Err Usage) = ⊥
+Serves is_after turns old new printed printed_after errors errors_after (Err (BadScript line)) = ⊥
 
 -- where the program failed: nothing was printed or said; or the text sets up a server, and nothing
 -- was printed, since none is open; or a front of `ready` was, and what was said is of the journal
@@ -418,8 +359,8 @@ pub data IsCutShort (text : List ℕ) (printed printed_after errors errors_after
       → AreSomeSaid errors errors_after → IsCutShort text printed printed_after errors errors_after
 
 -- A text was served: it sets up a server; once this was open, `ready` was printed, and all of so
--- many turns were taken, with what there was to tell said behind each, and the file read again
--- where that was asked for. Sockets keep no account of their calls.
+-- many turns were taken, with what there was to tell said behind each. Sockets keep no account of
+-- their calls.
 pub record IsServed (text : List ℕ) (turns : ℕ)
     (printed printed_after errors errors_after : Option (List ℕ)) : Type 0 where
   pub setup : Setup
@@ -428,8 +369,7 @@ pub record IsServed (text : List ℕ) (turns : ℕ)
   pub last : EngineViewOf MioWire Front
   pub is_opened : IsOpened setup first
   pub is_ready : Appends printed printed_after ready_text
-  pub taken :
-      FrontTurns is_text_of.settings setup.client_room first errors turns last errors_after
+  pub taken : FrontTurns (λ wire calls. ⊤) first errors turns last errors_after
 
 -- How serving by a text ends: anything was printed or said only where the text sets up a server; a
 -- bad text is refused, and so is one whose message of the day is, and nothing printed or said.

@@ -4,36 +4,28 @@ ghost use Rattle.irc_endings.specs.declared.fault.Stop.TheVariants.{Failed};
 ghost use Rattle.irc_engine.specs.Knowing.{HasNobody};
 ghost use Rattle.irc_engine.specs.EngineView.{engine_view};
 ghost use Rattle.ircd.specs.ClosedDoors.{SaysFault};
-ghost use Rattle.ircd.specs.Loops.Turns.{IsOfFile, Opens, TakesTurns};
+ghost use Rattle.ircd.specs.Loops.Turns.{IsOfFile, IsRun, Opens, TakesTurns};
 ghost use Rattle.ircd.specs.Loops.Manners.{FindsManner, FindsMotd, IsMotdIn, ReadsMotd};
 ghost use Rattle.ircd.specs.Serving.{IsMannerOf, ServesFile, ServesText};
 
 use crate::closed_door::say_closed;
 use crate::front::{Front, front_of};
-use crate::rereading::{Watch, look};
 use crate::setup::{Setup, read_setup};
 use irc_door::{Manner, Motd, MotdFault};
 use irc_endings::{Stop, say_ready};
 use irc_engine::Engine;
 use irc_layer::Layer;
-use irc_sockets::{ListenFault, Listening, MioWire};
-use irc_turns::Lookout;
+use irc_outbox::Wire;
+use irc_sockets::{Limits, ListenFault, Listening, MioWire};
 use std::alloc::Global;
 use std::fs::{Files, read_to_string};
 use std::io::{ErrorKind, Write};
 use std::net::Net;
 
-/// A configuration, and the name of the file that it is of.
-#[derive(Drop)]
-struct Source<'a> {
-    file: &'a str,
-    text: String,
-}
-
 /// Serves as a file says, for so many turns. Says `ready` as soon as clients and servers can
 /// connect, and the servers that it calls are called, whether they are reached or not. What becomes
 /// of links is said to `errors` behind each turn, and before that an address at which the system
-/// lets nobody listen. Where a file `.reload` stands beside it, it is read again.
+/// lets nobody listen.
 ///
 /// # Errors
 /// - [`Stop::BadConfiguration`] where the file cannot be read, or is no configuration, or names a
@@ -51,7 +43,7 @@ pub fn serve<T: AllocGlobal + Files + Net, O: Write, E: Write>(
         (E.contents errors.old) (E.contents errors.new) }
 {
     let text = read_file(rt, file)?;
-    serve_text(rt, &Source { file, text }, turns, output, errors)
+    serve_text(rt, text.as_str(), turns, output, errors)
 }
 
 /// All that a file holds.
@@ -65,23 +57,21 @@ fn read_file<T: AllocGlobal + Files>(rt: &T, file: &str) -> Result<String, Stop>
     }
 }
 
-/// Serves as a text says, and as the file does that it is of, where this is read again.
+/// Serves as a text says.
 fn serve_text<T: AllocGlobal + Files + Net, O: Write, E: Write>(
     rt: &T,
-    source: &Source,
+    text: &str,
     turns: u64,
     output: &mut O,
     errors: &mut E,
 ) -> Result<(), Stop>
-    ensures { ServesText (string_bytes source.now.text) turns result (O.contents output.old)
-        (O.contents output.new) (E.contents errors.old) (E.contents errors.new) }
+    ensures { ServesText text.now turns result (O.contents output.old) (O.contents output.new)
+        (E.contents errors.old) (E.contents errors.new) }
 {
-    let (settings, setup) = read_setup(rt.alloc(), source.text.as_str())?;
-    let watch = Watch::new(rt.alloc(), source.file, settings, setup.client_room)?;
+    let setup = read_setup(rt.alloc(), text)?;
     let manner = manner_of(rt, &setup)?;
     let mut engine = open(rt, rt.alloc(), setup, manner, errors)?;
-    say_ready(output)?;
-    take_turns(rt, &watch, &mut engine, turns, errors)
+    run_engine(&mut engine, turns, output, errors)
 }
 
 /// How clients are spoken to.
@@ -95,7 +85,7 @@ fn manner_of<T: AllocGlobal + Files>(rt: &T, setup: &Setup) -> Result<Manner, St
 }
 
 /// The message of the day that stands in a file, if one is named.
-pub(crate) fn optional_motd<T: AllocGlobal + Files>(
+fn optional_motd<T: AllocGlobal + Files>(
     rt: &T,
     file: Option<&String>,
     room: usize,
@@ -153,7 +143,13 @@ fn open<T: Net, E: Write>(
         link_room: setup.link_room,
         name_within: setup.name_within,
         register_within: setup.register_within,
-        limits: setup.limits,
+        limits: Limits {
+            connections_per_address: setup.connections_per_address,
+            links_per_address: setup.links_per_address,
+            pace: setup.pace,
+            deny: setup.deny,
+            proxies: setup.proxies,
+        },
     };
     let wire = match MioWire::listen(net, alloc, listening, setup.callees, setup.spread) {
         Ok(wire) => wire,
@@ -180,27 +176,32 @@ fn stop_for<E: Write>(fault: ListenFault, errors: &mut E) -> Stop
     }
 }
 
+/// Says `ready`, and takes so many turns.
+fn run_engine<W: Wire, O: Write, E: Write>(
+    engine: &mut Engine<W, Front>,
+    turns: u64,
+    output: &mut O,
+    errors: &mut E,
+) -> Result<(), Stop>
+    ensures { IsRun W.is_after turns engine.old engine.new (O.contents output.old)
+        (O.contents output.new)
+        (E.contents errors.old) (E.contents errors.new) result }
+{
+    say_ready(output)?;
+    take_turns(engine, turns, errors)
+}
+
 /// Takes so many turns, up to the first that is not done: it is the last, and the program fails.
-/// Behind each it looks whether the configuration is to be read again, once a second.
-fn take_turns<T: AllocGlobal + Files, E: Write>(
-    rt: &T,
-    watch: &Watch,
-    engine: &mut Engine<MioWire, Front>,
+fn take_turns<W: Wire, E: Write>(
+    engine: &mut Engine<W, Front>,
     turns: u64,
     errors: &mut E,
 ) -> Result<(), Stop>
-    ensures { TakesTurns watch.now (engine_view engine.old) turns (engine_view engine.new)
+    ensures { TakesTurns W.is_after (engine_view engine.old) turns (engine_view engine.new)
         (E.contents errors.old) (E.contents errors.new) result }
 {
-    let mut lookout = Lookout::new(engine.moment());
-    let mut is_stuck = false;
-    for _turn in 0..turns {
-        if engine.turn_telling(errors).is_err() {
-            return Err(Stop::Failed);
-        }
-        if lookout.is_time(engine.moment()) {
-            look(rt, watch, engine, &mut is_stuck, errors);
-        }
+    match engine.run_telling(turns, errors) {
+        Ok(()) => Ok(()),
+        Err(_) => Err(Stop::Failed),
     }
-    Ok(())
 }

@@ -17,7 +17,7 @@ use irc_names::ServerName;
 use irc_routes::Own;
 use irc_server::{Config, Peer, Server};
 use irc_settings::{PeerSettings, Settings, read_settings};
-use irc_sockets::{Callee, Limits};
+use irc_sockets::Callee;
 use irc_turns::{LinesPace, name_spread};
 use std::alloc::{AllocError, Global};
 use std::net::SocketAddr;
@@ -31,8 +31,10 @@ pub struct Setup {
     pub clients: SocketAddr,
     /// Where it listens for servers, if it does.
     pub links: Option<SocketAddr>,
-    /// Who comes in, and how much of each is taken.
-    pub limits: Limits,
+    /// From where no client comes in.
+    pub deny: Vec<AddressRange, Global>,
+    /// From where proxies come, who say first for whom.
+    pub proxies: Vec<AddressRange, Global>,
     /// The servers that it calls, in the order of its peers.
     pub callees: Vec<Callee, Global>,
     /// Those of its peers that know no pieces, and are called without the word for them.
@@ -40,11 +42,18 @@ pub struct Setup {
     /// How many milliseconds more it waits before the first call that it makes again, by its own
     /// name.
     pub spread: u64,
+    /// How many clients may be connected from one address, if there is a limit.
+    pub connections_per_address: Option<u16>,
     /// For how many seconds who connects for links may stay without naming itself, if there is a
     /// limit.
     pub name_within: Option<u16>,
+    /// How many connections for links that have not named themselves may be there from one address,
+    /// if there is a limit.
+    pub links_per_address: Option<u16>,
     /// For how many seconds a client may stay without becoming a user, if there is a limit.
     pub register_within: Option<u16>,
+    /// How many lines of a client are taken, if there is a limit.
+    pub pace: Option<LinesPace>,
     /// What clients are told beside the profile.
     pub programs: Programs,
     /// The file whose text they are told as the message of the day, if there is one.
@@ -57,17 +66,16 @@ pub struct Setup {
     pub link_room: usize,
 }
 
-/// What a text says, and what that sets up.
+/// What a text sets up.
 ///
 /// # Errors
 /// [`Stop::BadConfiguration`] where the text is no configuration, an address or a range in it is
 /// none, or no server is made of it; [`Stop::Failed`] where memory runs out.
-pub fn read_setup(alloc: Global, text: &str) -> Result<(Settings, Setup), Stop>
+pub fn read_setup(alloc: Global, text: &str) -> Result<Setup, Stop>
     ensures { IsReadSetup text.now result }
 {
     let settings = read_settings(alloc, text)?;
-    let setup = set_up(alloc, &settings)?;
-    Ok((settings, setup))
+    set_up(alloc, &settings)
 }
 
 /// What settings set up.
@@ -78,19 +86,17 @@ fn set_up(alloc: Global, settings: &Settings) -> Result<Setup, Stop>
         callees: callees(alloc, &settings.peers)?,
         clients: address(settings.listen.as_str())?,
         links: optional_address(settings.listen_links.as_ref())?,
-        limits: Limits {
-            deny: ranges(alloc, &settings.deny)?,
-            proxies: ranges(alloc, &settings.proxies)?,
-            connections_per_address: settings.connections_per_address,
-            links_per_address: settings.links_per_address,
-            pace: pace(settings),
-        },
+        deny: ranges(alloc, &settings.deny)?,
+        proxies: ranges(alloc, &settings.proxies)?,
         server: Server::new(alloc, config(alloc, settings)?)?,
         asks: asks(settings)?,
         plain: plain_names(alloc, &settings.peers)?,
         spread: own_spread(settings),
+        connections_per_address: settings.connections_per_address,
         name_within: settings.name_within,
+        links_per_address: settings.links_per_address,
         register_within: settings.register_within,
+        pace: pace(settings),
         programs: programs(settings.programs),
         motd: optional_text(alloc, settings.motd.as_ref())?,
         client_room: settings.client_room,
