@@ -161,21 +161,33 @@ def messages_are_right(program):
 CAP = (
     ("CAP LS 302", [":a.net 451 * :You have not registered"], [":a.net CAP * LS :"]),
     ("NICK al", [], []),
+    ("CAP REQ :a b", [":a.net 451 al :You have not registered"], [":a.net CAP al NAK :a b"]),
     ("USER u 0 * :Al", None, []),
-    ("CAP REQ :a b", [":a.net 421 al CAP :Unknown command"], [":a.net CAP al NAK :a b"]),
     ("CAP", [":a.net 421 al CAP :Unknown command"], [":a.net 461 al CAP :Not enough parameters"]),
     ("CAP FOO", [":a.net 421 al CAP :Unknown command"], [":a.net 410 al FOO :Invalid CAP command"]),
     ("CAP END", [":a.net 421 al CAP :Unknown command"], None),
     ("CAP END", [":a.net 421 al CAP :Unknown command"], []),
     ("cap list", [":a.net 421 al cap :Unknown command"], [":a.net CAP al LIST :"]),
 )
+# the same of who asks which there are, and for none
+LISTED = (
+    ("CAP LS 302", [":a.net 451 * :You have not registered"], [":a.net CAP * LS :"]),
+    ("NICK bo", [], []),
+    ("USER u 0 * :Bo", None, None),
+    ("CAP END", [":a.net 421 bo CAP :Unknown command"], []),
+)
 
 
 def negotiation_is_right(program, port, programs):
+    with daemon(program, port, programs):
+        return all([rows_are_right(port, programs, rows) for rows in (CAP, LISTED)])
+
+
+def rows_are_right(port, programs, rows):
     """Where None stands the client registers."""
-    with daemon(program, port, programs), contextlib.closing(socket.create_connection(("127.0.0.1", port))) as client:
+    with contextlib.closing(socket.create_connection(("127.0.0.1", port))) as client:
         seen, result = b"", []
-        for number, (line, *wanted) in enumerate(CAP):
+        for number, (line, *wanted) in enumerate(rows):
             client.sendall(f"{line}\r\nPING {number}\r\n".encode())
             while b"PONG a.net :%d\r\n" % number not in seen:
                 seen += client.recv(65536)
