@@ -1,5 +1,5 @@
 -- No line that a server writes of servers, of a collision or of members is cut, by the limits (RFC
--- 2812 section 2.3: 510 bytes before CR LF). Of its MODE and TOPIC irc_wire says it.
+-- 2812 section 2.3: 510 bytes before CR LF). Of its MODE and TOPIC irc_readback says it.
 use Rattle.std.specs.Prelude.{◌≡◌, ◌≤◌, ℕ, true, List, length}
 use Rattle.std.specs.List.{list_all}
 use Rattle.irc_line.specs.Messages.{Written, joined_text, text}

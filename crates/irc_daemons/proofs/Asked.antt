@@ -39,7 +39,7 @@ use Rattle.irc_network.specs.Node.{Served, reply, serves_read_event}
 use Rattle.irc_network.specs.Network.{Network, Node, begun, given, home_place, item_kept}
 use Rattle.irc_network.specs.Network.{server_place, node_asked, node_asked_if, node_at, node_view}
 use Rattle.irc_network.specs.Refusing.{client_fault, fault_at_rest, has_client}
-use Rattle.irc_wires.specs.Wires.{are_still, is_still, new_wire, wire_at, wire_in, LinkWire, Wires}
+use Rattle.irc_pipes.specs.Pipes.{are_still, is_still, new_pipe, pipe_at, pipe_in, LinkPipe, Pipes}
 use Rattle.irc_network.specs.ByteNetwork.{ByteNetwork, is_byte_rest, item_given}
 use Rattle.irc_network.specs.ByteNetwork.{queues_written}
 use Rattle.irc_network.specs.Whole.{IsTidy, has_way}
@@ -58,7 +58,7 @@ use Rattle.irc_daemons.specs.Clients.{ClientsStay}
 use Rattle.irc_daemons.specs.Daemons.{Daemons}
 use Rattle.irc_daemons.specs.Items.{AreItems, AreSpaced, IsItem, has_item, is_connect, is_gone}
 use Rattle.irc_daemons.specs.Items.{is_line, is_link_line, is_on_link, no_item}
-use Rattle.irc_daemons.proofs.Given.{Went, item_went, went_both, went_nowhere, wire_behind}
+use Rattle.irc_daemons.proofs.Given.{Went, item_went, went_both, went_nowhere, pipe_behind}
 use Rattle.irc_daemons.proofs.Lists.{rest_none}
 use Rattle.irc_daemons.proofs.Sent.{server_at}
 use Rattle.irc_daemons.proofs.Told.{heard_first}
@@ -82,23 +82,23 @@ leads_both old mid new before items one (has_come front from to count between fi
 
 -- nothing is on its way
 abbrev pub AllStill : ByteNetwork → Type 0
-AllStill net = (x y : ℕ) → wire_at net.wires x y ≡ new_wire
+AllStill net = (x y : ℕ) → pipe_at net.pipes x y ≡ new_pipe
 
-still_row : (row : FinMap nat_cmp LinkWire) (numbers : List ℕ) → ((to : ℕ)
-    → wire_in to row ≡ new_wire) → list_all (λ to. is_still (wire_in to row)) numbers ≡ true
+still_row : (row : FinMap nat_cmp LinkPipe) (numbers : List ℕ) → ((to : ℕ)
+    → pipe_in to row ≡ new_pipe) → list_all (λ to. is_still (pipe_in to row)) numbers ≡ true
 still_row row [] all = refl
 still_row row (to ∷ numbers) all =
-    ap (λ wire. is_still wire && list_all (λ q. is_still (wire_in q row)) numbers) (all to)
+    ap (λ pipe. is_still pipe && list_all (λ q. is_still (pipe_in q row)) numbers) (all to)
     ∙ still_row row numbers all
 
-still_rows : (wires : Wires) → ((x y : ℕ) → wire_at wires x y ≡ new_wire) → are_still wires ≡ true
+still_rows : (pipes : Pipes) → ((x y : ℕ) → pipe_at pipes x y ≡ new_pipe) → are_still pipes ≡ true
 still_rows [] all = refl
-still_rows (row ∷ wires) all =
-    ap (λ b. b && are_still wires) (still_row row (keys row) (all 0))
-    ∙ still_rows wires (λ x. all (suc x))
+still_rows (row ∷ pipes) all =
+    ap (λ b. b && are_still pipes) (still_row row (keys row) (all 0))
+    ∙ still_rows pipes (λ x. all (suc x))
 
 pub at_rest : (net : ByteNetwork) → AllStill net → is_byte_rest net ≡ true
-at_rest net all = still_rows net.wires all
+at_rest net all = still_rows net.pipes all
 
 pub none_refused : (net : ByteNetwork) (item : Item) → is_byte_rest net ≡ true
     → fault_at_rest net.network item ≡ None → item_fault net item ≡ None
@@ -112,22 +112,22 @@ none_refused net item rest none =
 pub given_line : (net : ByteNetwork) (place client : ℕ) (text : List ℕ)
     → home_place net.network client ≡ Some place → (item_given (line client text) net).state
     ≡ queues_written (item_kept (line client text) (node_asked place
-    (of_client (says client (read_of text))) (begun net.network))).state net.wires
+    (of_client (says client (read_of text))) (begun net.network))).state net.pipes
 unfolding item_given given
 given_line net place client text home =
     ap
     (λ o. queues_written
     (item_kept (line client text) (node_asked_if o (of_client (says client (read_of text)))
-    (begun net.network))).state net.wires) home
+    (begun net.network))).state net.pipes) home
 
 pub given_gone : (net : ByteNetwork) (place client : ℕ) → home_place net.network client ≡ Some place
     → (item_given (gone client) net).state
     ≡ queues_written (item_kept (gone client)
-    (node_asked place (of_client (goes client)) (begun net.network))).state net.wires
+    (node_asked place (of_client (goes client)) (begun net.network))).state net.pipes
 unfolding item_given given
 given_gone net place client home =
     ap (λ o. queues_written (item_kept (gone client)
-    (node_asked_if o (of_client (goes client)) (begun net.network))).state net.wires) home
+    (node_asked_if o (of_client (goes client)) (begun net.network))).state net.pipes) home
 
 view_there : (o : Option Node) (view : View) → option_map (λ (s : Node). s.server) o
     ≡ Some (Some view) → option_and_then (λ (s : Node). s.server) o ≡ Some view
@@ -405,12 +405,12 @@ module _ (lines_end : ServedLinesEnd) (own_law : ServedGoesToItsOwn) (stay : Cli
                 (client_comes q (read_event_of event)) (connects_none q) is
 
         pub one_went : (item : Item) → Went place numbers mine.state mine.out net (queues_written
-            (item_kept item (node_asked place read_event (begun net.network))).state net.wires)
+            (item_kept item (node_asked place read_event (begun net.network))).state net.pipes)
         one_went item =
             subst
             (λ (o : ReadEvent). Went place numbers (reply own o).state (reply own o).out net
             (queues_written
-            (item_kept item (node_asked place read_event (begun net.network))).state net.wires))
+            (item_kept item (node_asked place read_event (begun net.network))).state net.pipes))
             (sym is_it)
             (item_went lines_end own_law alike_law place numbers apart own at.other read_event conn
             happens at.alike net at.tidy at.server at.ways item)
@@ -421,26 +421,26 @@ module _ (lines_end : ServedLinesEnd) (own_law : ServedGoesToItsOwn) (stay : Cli
             → list_any is_on_link mine.out ≡ false → AllStill after
         still_again after went still opened none x y = by (nat_eq x place) refl
           where
-            by_link : (o : Option ℕ) → numbers.link y ≡ o → wire_at after.wires place y ≡ new_wire
+            by_link : (o : Option ℕ) → numbers.link y ≡ o → pipe_at after.pipes place y ≡ new_pipe
             by_link None no_link = went.no_way y no_link ∙ still place y
             by_link (Some q) link =
-                went.wires_here y q link (opened y q link)
-                ∙ ap (λ bs. wire_behind bs (wire_at net.wires place y))
+                went.pipes_here y q link (opened y q link)
+                ∙ ap (λ bs. pipe_behind bs (pipe_at net.pipes place y))
                 (nothing_linked own_law own (read_event_of event) at.alike.ends_count q
                 (no_link_client numbers own at.other apart at.alike y q link) none)
-                ∙ ap (wire_behind []) (still place y)
+                ∙ ap (pipe_behind []) (still place y)
 
-            by : (b : Bool) → nat_eq x place ≡ b → wire_at after.wires x y ≡ new_wire
-            by true one = ap (λ n. wire_at after.wires n y) (eqb-true x place one)
+            by : (b : Bool) → nat_eq x place ≡ b → pipe_at after.pipes x y ≡ new_pipe
+            by true one = ap (λ n. pipe_at after.pipes n y) (eqb-true x place one)
                 ∙ by_link (numbers.link y) refl
-            by false two = went.wires_there x y two ∙ still x y
+            by false two = went.pipes_there x y two ∙ still x y
 
         -- and then what is left
         pub one_more : (last : View) (events : List Event) (first more : List Sent)
             (item : Item) (items : List Item) (later rest : Bool) → first ≡ mine.out
             → AllStill net → fault_at_rest net.network item ≡ None
             → IsItemWithin item → (item_given item net).state ≡ queues_written
-            (item_kept item (node_asked place read_event (begun net.network))).state net.wires
+            (item_kept item (node_asked place read_event (begun net.network))).state net.pipes
             → ((y q : ℕ) → numbers.link y ≡ Some q → is_closed_by q (first ++ more) ≡ false)
             → (rest ≡ true → list_any is_on_link first ≡ false) → ((after : ByteNetwork)
             → IsAt place numbers mine.state after → (rest ≡ true → AllStill after)
@@ -538,7 +538,7 @@ module _ (lines_end : ServedLinesEnd) (own_law : ServedGoesToItsOwn) (stay : Cli
             → asked.first ≡ (reply own (read_event_of event)).out
             → AllStill net → fault_at_rest net.network item ≡ None
             → IsItemWithin item → (item_given item net).state ≡ queues_written
-            (item_kept item (node_asked place read_event (begun net.network))).state net.wires
+            (item_kept item (node_asked place read_event (begun net.network))).state net.pipes
             → AreItems names daemons place events more → Others
             → Goes place numbers own last (event ∷ events) outs (item ∷ more) later net
         item_goes read_event conn item more is_it happens connects_none no_link_comes server_is

@@ -34,7 +34,7 @@ use Rattle.irc_stage.specs.View.{View}
 use Rattle.irc_world.specs.World.{home_in}
 use Rattle.irc_network.specs.Network.{Network, Node, begun, home_place, item_kept, server_place}
 use Rattle.irc_network.specs.Network.{node_asked, node_at}
-use Rattle.irc_wires.specs.Wires.{new_wire, wire_at}
+use Rattle.irc_pipes.specs.Pipes.{new_pipe, pipe_at}
 use Rattle.irc_network.specs.ByteNetwork.{ByteNetwork, item_given, queues_written}
 use Rattle.irc_network.specs.Whole.{IsTidy, has_way}
 use Rattle.irc_network.specs.Lemmas.NewFramer.{new_is_real}
@@ -55,7 +55,7 @@ use Rattle.irc_daemons.specs.AsNetwork.{AllClientsOpen, AreClientsOpen, AreRecei
 use Rattle.irc_daemons.specs.AsNetwork.{HasFollowed, IsAsNetwork, LeadsTo, is_given, no_more}
 use Rattle.irc_daemons.specs.Clients.{ClientsStay}
 use Rattle.irc_daemons.specs.Daemons.{AreJoined, AreLinksOpen, Daemons, IsToldOfLinks}
-use Rattle.irc_daemons.specs.Daemons.{connection_at, connection_in, end_at, unsent, wire_between}
+use Rattle.irc_daemons.specs.Daemons.{connection_at, connection_in, end_at, unsent, pipe_between}
 use Rattle.irc_daemons.specs.Doings.{Doings, and_then, answers_did, newcomer_in, ran_did, taken_at}
 use Rattle.irc_daemons.specs.Doings.{written_at}
 use Rattle.irc_daemons.specs.Items.{AnswersSpaced, AreItems, AreSpaced, IsApartStep, IsItem}
@@ -70,14 +70,14 @@ use Rattle.irc_daemons.proofs.Connected.{get_last, get_past, given_connect, home
 use Rattle.irc_daemons.proofs.Connected.{next_is, not_refused_here, nothing_said, one_longer}
 use Rattle.irc_daemons.proofs.Connected.{same_bytes, view_of_served, with_one}
 use Rattle.irc_daemons.proofs.Heard.{none_stays}
-use Rattle.irc_daemons.proofs.Given.{Went, item_went, went_both, wire_behind}
+use Rattle.irc_daemons.proofs.Given.{Went, item_went, went_both, pipe_behind}
 use Rattle.irc_daemons.proofs.Lists.{front_none, set_elsewhere, set_here}
 use Rattle.irc_daemons.proofs.Open.{IsOpenOf, StreamLinesAreCarried, as_open_of, heard_carried}
 use Rattle.irc_daemons.proofs.Open.{keeps_kind, none_connects, none_gone, open_of, stays_open}
 use Rattle.irc_daemons.proofs.Open.{texts_carried}
 use Rattle.irc_daemons.proofs.Single.{HasServer, HasView, HaveViews, has_framer, has_server}
 use Rattle.irc_daemons.proofs.Single.{has_view, have_views, is_carried, moved, none_read}
-use Rattle.irc_daemons.proofs.Single.{real_or_none, same_wire, taken_in}
+use Rattle.irc_daemons.proofs.Single.{real_or_none, same_pipe, taken_in}
 use Rattle.irc_daemons.proofs.Seats.{SeatThen, alike_then, is_new, is_old, joined_then}
 use Rattle.irc_daemons.proofs.Seats.{numbers_then, seat_elsewhere, seat_of_new, seat_then}
 use Rattle.irc_daemons.proofs.Sent.{server_at}
@@ -165,7 +165,7 @@ module _ {W : Type 0} (is_after : W → List Call → Type 0) (pieces : PiecesCo
     engine = step.engine
 
     abbrev pub start : Moment W
-    start = record engine.now { wire = step.turn.wire }
+    start = record engine.now { pipe = step.turn.pipe }
 
     abbrev pub mid_moment : Moment W
     mid_moment = step.turn.does.between
@@ -432,9 +432,9 @@ module _ {W : Type 0} (is_after : W → List Call → Type 0) (pieces : PiecesCo
 
       -- what is on the way to this server where nothing was read
       pub incoming_stays : ((y q : ℕ) → old.ends place y ≡ Some q → part.came q ≡ []) → (x : ℕ)
-          → nat_eq x place ≡ false → wire_between old x place ≡ wire_between new x place
+          → nat_eq x place ≡ false → pipe_between old x place ≡ pipe_between new x place
       incoming_stays none x two =
-          same_wire (begun_or_none (begun_at (end_at old place x)))
+          same_pipe (begun_or_none (begun_at (end_at old place x)))
           (begun_or_none (begun_at (end_at new place x)))
           (old.transit x place ++ unsent (end_at old x place)) (new.transit x place
           ++ unsent (end_at new x place)) (begun_same (old.ends place x) refl)
@@ -469,11 +469,11 @@ module _ {W : Type 0} (is_after : W → List Call → Type 0) (pieces : PiecesCo
           (servers_mid : (x : ℕ) → nat_eq x place ≡ false
           → IsServerIf (numbers_at old x) (slice_get old.engines x) (node_at mid.network x))
           (ways_mid : (x y : ℕ) → has_way mid.network x y ≡ old.ways x y)
-          (outgoing : (y : ℕ) → wire_at mid.wires place y ≡ wire_between old place y)
+          (outgoing : (y : ℕ) → pipe_at mid.pipes place y ≡ pipe_between old place y)
           (elsewhere : (x y : ℕ) → nat_eq x place ≡ false → nat_eq y place ≡ false
-          → wire_at mid.wires x y ≡ wire_between old x y)
+          → pipe_at mid.pipes x y ≡ pipe_between old x y)
           (incoming : (x : ℕ) → nat_eq x place ≡ false
-          → wire_at mid.wires x place ≡ wire_between new x place)
+          → pipe_at mid.pipes x place ≡ pipe_between new x place)
           (once : (x y : ℕ) (name : Name) → slice_get names x ≡ Some name
           → slice_get names y ≡ Some name → x ≡ y)
           (seats_there : (x client : ℕ) → nat_eq x place ≡ false
@@ -486,7 +486,7 @@ module _ {W : Type 0} (is_after : W → List Call → Type 0) (pieces : PiecesCo
           abbrev numbers : Numbers
           numbers = numbers_at new place
 
-          -- ---- wires
+          -- ---- pipes
 
           transit_now : (y q : ℕ) → old.ends place y ≡ Some q
               → new.transit place y ≡ old.transit place y ++ written q calls
@@ -494,14 +494,14 @@ module _ {W : Type 0} (is_after : W → List Call → Type 0) (pieces : PiecesCo
               step.writes y ∙ ap (λ o. old.transit place y ++ written_at o step.did.calls) is
               ∙ ap (λ cs. old.transit place y ++ written q cs) calls_are
 
-          wire_here : (y q : ℕ) → old.ends place y ≡ Some q
-              → wire_at after.wires place y ≡ wire_between new place y
-          wire_here y q is =
+          pipe_here : (y q : ℕ) → old.ends place y ≡ Some q
+              → pipe_at after.pipes place y ≡ pipe_between new place y
+          pipe_here y q is =
               let carried = is_carried q (begin.connections q) (end.connections q) calls outs
               (fate q) (link_end y q is).is_open in
-              went.wires_here y q (ends_are place y ∙ is) carried.not_closed
-              ∙ ap (wire_behind (answers q outs)) (outgoing y)
-              ∙ same_wire (begun_or_none (begun_at (end_at old y place)))
+              went.pipes_here y q (ends_are place y ∙ is) carried.not_closed
+              ∙ ap (pipe_behind (answers q outs)) (outgoing y)
+              ∙ same_pipe (begun_or_none (begun_at (end_at old y place)))
               (begun_or_none (begun_at (end_at new y place)))
               ((old.transit place y ++ unsent (end_at old place y)) ++ answers q outs)
               (new.transit place y ++ unsent (end_at new place y))
@@ -513,11 +513,11 @@ module _ {W : Type 0} (is_after : W → List Call → Type 0) (pieces : PiecesCo
               ∙ ap (λ xs. xs ++ unsent (end.connections q)) (sym (transit_now y q is))
               ∙ ap (λ o. new.transit place y ++ unsent o) (sym (end_now y q is)))
 
-          wire_none : (y : ℕ) → old.ends place y ≡ None
-              → wire_at after.wires place y ≡ wire_between new place y
-          wire_none y is =
+          pipe_none : (y : ℕ) → old.ends place y ≡ None
+              → pipe_at after.pipes place y ≡ pipe_between new place y
+          pipe_none y is =
               went.no_way y (ends_are place y ∙ is) ∙ outgoing y
-              ∙ same_wire (begun_or_none (begun_at (end_at old y place)))
+              ∙ same_pipe (begun_or_none (begun_at (end_at old y place)))
               (begun_or_none (begun_at (end_at new y place)))
               (old.transit place y ++ unsent (end_at old place y))
               (new.transit place y ++ unsent (end_at new place y))
@@ -527,35 +527,35 @@ module _ {W : Type 0} (is_after : W → List Call → Type 0) (pieces : PiecesCo
               ++ written_at o step.did.calls) (sym is) ∙ sym (step.writes y))
               ∙ ap (λ o. new.transit place y ++ unsent o) (sym (end_none place y is)))
 
-          wire_apart : (x y : ℕ) → nat_eq x place ≡ false → nat_eq y place ≡ false
-              → wire_at after.wires x y ≡ wire_between new x y
-          wire_apart x y two other =
-              went.wires_there x y two ∙ elsewhere x y two other
-              ∙ same_wire (begun_or_none (begun_at (end_at old y x))) (begun_or_none
+          pipe_apart : (x y : ℕ) → nat_eq x place ≡ false → nat_eq y place ≡ false
+              → pipe_at after.pipes x y ≡ pipe_between new x y
+          pipe_apart x y two other =
+              went.pipes_there x y two ∙ elsewhere x y two other
+              ∙ same_pipe (begun_or_none (begun_at (end_at old y x))) (begun_or_none
               (begun_at (end_at new y x))) (old.transit x y ++ unsent (end_at old x y))
               (new.transit x y ++ unsent (end_at new x y))
               (ap (λ o. begun_or_none (begun_at o)) (sym (end_there y x other)))
               (ap (λ xs. xs ++ unsent (end_at old x y)) (sym (step.elsewhere x y two other))
               ∙ ap (λ o. new.transit x y ++ unsent o) (sym (end_there x y two)))
 
-          all_wires : (x y : ℕ) → wire_at after.wires x y ≡ wire_between new x y
-          all_wires x y = by (nat_eq x place) (nat_eq y place) refl refl
+          all_pipes : (x y : ℕ) → pipe_at after.pipes x y ≡ pipe_between new x y
+          all_pipes x y = by (nat_eq x place) (nat_eq y place) refl refl
             where
               by_end : (z : ℕ) (o : Option ℕ) → old.ends place z ≡ o
-                  → wire_at after.wires place z ≡ wire_between new place z
-              by_end z None is = wire_none z is
-              by_end z (Some q) is = wire_here z q is
+                  → pipe_at after.pipes place z ≡ pipe_between new place z
+              by_end z None is = pipe_none z is
+              by_end z (Some q) is = pipe_here z q is
 
               by : (a b : Bool) → nat_eq x place ≡ a → nat_eq y place ≡ b
-                  → wire_at after.wires x y ≡ wire_between new x y
+                  → pipe_at after.pipes x y ≡ pipe_between new x y
               by true b one there =
-                  subst (λ n. wire_at after.wires n y ≡ wire_between new n y)
+                  subst (λ n. pipe_at after.pipes n y ≡ pipe_between new n y)
                   (sym (eqb-true x place one)) (by_end y (old.ends place y) refl)
               by false true two there =
-                  subst (λ n. wire_at after.wires x n ≡ wire_between new x n)
+                  subst (λ n. pipe_at after.pipes x n ≡ pipe_between new x n)
                   (sym (eqb-true y place there))
-                  (went.wires_there x place two ∙ incoming x two)
-              by false false two other = wire_apart x y two other
+                  (went.pipes_there x place two ∙ incoming x two)
+              by false false two other = pipe_apart x y two other
 
           -- ---- servers
 
@@ -616,7 +616,7 @@ module _ {W : Type 0} (is_after : W → List Call → Type 0) (pieces : PiecesCo
           as_bytes = record {
             servers = all_servers;
             ways = λ x y. went.ways x y ∙ ways_mid x y ∙ sym (ways_are x y);
-            wires = all_wires;
+            pipes = all_pipes;
             tidy = went.tidy;
           }
 
@@ -1011,7 +1011,7 @@ module _ {W : Type 0} (is_after : W → List Call → Type 0) (pieces : PiecesCo
             (own_open : (q : ℕ) → is_some (get base_own.clients q) ≡ true
             → open_kind_at (begin.connections q) ≡ Some kinds.Client)
             (nodes_same : base.network.nodes ≡ net.network.nodes)
-            (wires_same : base.wires ≡ net.wires)
+            (pipes_same : base.pipes ≡ net.pipes)
             (seats_there : (x client : ℕ) → nat_eq x place ≡ false
             → new.seats x client ≡ old.seats x client)
             (seats_here : (client q : ℕ) → new.seats place client ≡ Some q
@@ -1066,8 +1066,8 @@ module _ {W : Type 0} (is_after : W → List Call → Type 0) (pieces : PiecesCo
             nodes_at : (x : ℕ) → node_at base.network x ≡ node_at net.network x
             nodes_at x = ap (λ (nodes : List Node). slice_get nodes x) nodes_same
 
-            base_wire : (x y : ℕ) → wire_at base.wires x y ≡ wire_between old x y
-            base_wire x y = ap (λ ws. wire_at ws x y) wires_same ∙ same.as_bytes.wires x y
+            base_pipe : (x y : ℕ) → pipe_at base.pipes x y ≡ pipe_between old x y
+            base_pipe x y = ap (λ ws. pipe_at ws x y) pipes_same ∙ same.as_bytes.pipes x y
 
             then_followed : HasFollowed names items net new
             then_followed = record {
@@ -1084,8 +1084,8 @@ module _ {W : Type 0} (is_after : W → List Call → Type 0) (pieces : PiecesCo
                   (sym (nodes_at x)) (same.as_bytes.servers x))
                   (λ x y. ap (λ o. is_some (option_and_then (λ (node : Node). get node.queues y) o))
                   (nodes_at x) ∙ same.as_bytes.ways x y)
-                  (λ y. base_wire place y) (λ x y two other. base_wire x y)
-                  (λ x two. base_wire x place ∙ incoming_stays joined_now ends_begin unread x two)
+                  (λ y. base_pipe place y) (λ x y two other. base_pipe x y)
+                  (λ x two. base_pipe x place ∙ incoming_stays joined_now ends_begin unread x two)
                   once seats_there seats_here seated received;
             }
 
@@ -1392,7 +1392,7 @@ module _ {W : Type 0} (is_after : W → List Call → Type 0) (pieces : PiecesCo
             given_net = (item_given item net).state
 
             given_so : given_net ≡ queues_written
-                (item_kept item (node_asked place read_event (begun base.network))).state base.wires
+                (item_kept item (node_asked place read_event (begun base.network))).state base.pipes
             given_so = given_connect net place (suc old.came) name host at_name
                 (next_is net.network.homes old.came came_is)
 
@@ -1410,15 +1410,15 @@ module _ {W : Type 0} (is_after : W → List Call → Type 0) (pieces : PiecesCo
             still_given still x y = by (nat_eq x place) refl
               where
                 by_link : (o : Option ℕ) → numbers_now.link y ≡ o
-                    → wire_at given_net.wires place y ≡ new_wire
+                    → pipe_at given_net.pipes place y ≡ new_pipe
                 by_link None none = went_first.no_way y none ∙ still place y
                 by_link (Some q) link =
-                    went_first.wires_here y q link refl ∙ ap (wire_behind []) (still place y)
+                    went_first.pipes_here y q link refl ∙ ap (pipe_behind []) (still place y)
 
-                by : (b : Bool) → nat_eq x place ≡ b → wire_at given_net.wires x y ≡ new_wire
-                by true one = ap (λ n. wire_at given_net.wires n y) (eqb-true x place one)
+                by : (b : Bool) → nat_eq x place ≡ b → pipe_at given_net.pipes x y ≡ new_pipe
+                by true one = ap (λ n. pipe_at given_net.pipes n y) (eqb-true x place one)
                     ∙ by_link (numbers_now.link y) refl
-                by false two = went_first.wires_there x y two ∙ still x y
+                by false two = went_first.pipes_there x y two ∙ still x y
 
             at_base : IsAt place numbers_now own.state base
             at_base = record {

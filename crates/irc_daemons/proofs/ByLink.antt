@@ -23,10 +23,10 @@ use Rattle.irc_server.specs.Own.{ServedGoesToItsOwn}
 use Rattle.irc_stage.specs.View.{View}
 use Rattle.irc_world.specs.Stepping.{Item}
 use Rattle.irc_network.specs.Network.{Network, Progress, Node, begun, node_at}
-use Rattle.irc_wires.specs.Wires.{LinkWire, Wires, advanced, lines_by, wire_at}
-use Rattle.irc_wires.specs.Lemmas.PutWires.{IsSetAt, it, nowhere, other_from, other_to, wire_set}
+use Rattle.irc_pipes.specs.Pipes.{LinkPipe, Pipes, advanced, lines_by, pipe_at}
+use Rattle.irc_pipes.specs.Lemmas.PutPipes.{IsSetAt, it, nowhere, other_from, other_to, pipe_set}
 use Rattle.irc_network.specs.ByteNetwork.{ByteNetwork, all_heard, bytes_come}
-use Rattle.irc_network.specs.ByteNetwork.{completed_in, queues_written, wires_come}
+use Rattle.irc_network.specs.ByteNetwork.{completed_in, queues_written, pipes_come}
 use Rattle.irc_network.specs.Loops.Writing.{IsWritten}
 use Rattle.irc_network.specs.Whole.{IsTidy, has_way}
 use Rattle.irc_network.specs.Lemmas.NewFramer.{new_is_real}
@@ -48,7 +48,7 @@ use Rattle.irc_daemons.specs.AsNetwork.{AreReceived, AreSeated, HasFollowed, IsA
 use Rattle.irc_daemons.specs.AsNetwork.{no_more}
 use Rattle.irc_daemons.specs.Clients.{ClientsStay}
 use Rattle.irc_daemons.specs.Daemons.{AreJoined, AreLinksOpen, Daemons, IsToldOfLinks}
-use Rattle.irc_daemons.specs.Daemons.{connection_at, connection_in, end_at, unsent, wire_between}
+use Rattle.irc_daemons.specs.Daemons.{connection_at, connection_in, end_at, unsent, pipe_between}
 use Rattle.irc_daemons.specs.Doings.{Doings, and_then, answers_did, newcomer_in, ran_did, taken_at}
 use Rattle.irc_daemons.specs.EachStep.{AreFollowed, ReadsLink}
 use Rattle.irc_daemons.specs.Items.{AnswersSpaced, AreItems, IsItem, has_item, is_connect, is_gone}
@@ -65,7 +65,7 @@ use Rattle.irc_daemons.proofs.Open.{open_of}
 use Rattle.irc_daemons.proofs.ReadParts.{IsReading, part_reads}
 use Rattle.irc_daemons.proofs.Single.{HasServer, HasView, HaveViews, IsOpenLink, has_framer}
 use Rattle.irc_daemons.proofs.Single.{has_server, has_view, have_views, none_read, open_link}
-use Rattle.irc_daemons.proofs.Single.{real_or_none, same_wire, taken_in, wire_of}
+use Rattle.irc_daemons.proofs.Single.{real_or_none, same_pipe, taken_in, pipe_of}
 use Rattle.irc_daemons.proofs.Sent.{server_at}
 use Rattle.irc_daemons.proofs.Asked.{ServesClients}
 use Rattle.irc_daemons.proofs.Told.{IsRealIf, begun_or_none, framed, heard_first, nothing_heard}
@@ -140,7 +140,7 @@ pub record BytesCame {W : Type 0} (names : List Name) (from to : ℕ) (net : Byt
     (new : Daemons W) : Type 0 where
   pub front : List ℕ
   pub rest : List ℕ
-  pub bytes_are : (wire_at net.wires from to).bytes ≡ front ++ rest
+  pub bytes_are : (pipe_at net.pipes from to).bytes ≡ front ++ rest
   pub way : has_way net.network from to ≡ true
   pub state : View
   pub at : server_at net.network to ≡ Some (Some state)
@@ -166,7 +166,7 @@ module _ {W : Type 0} (is_after : W → List Call → Type 0) (pieces : PiecesCo
     engine = step.engine
 
     abbrev start : Moment W
-    start = record engine.now { wire = step.turn.wire }
+    start = record engine.now { pipe = step.turn.pipe }
 
     abbrev mid : Moment W
     mid = step.turn.does.between
@@ -479,7 +479,7 @@ module _ {W : Type 0} (is_after : W → List Call → Type 0) (pieces : PiecesCo
             (is ∙ ap Some (sym (eqb-true conn q one))) reads.is_end)) ∙ two)
         by false other = refl
 
-    -- ---- bytes are off the wire
+    -- ---- bytes are off the pipe
 
     transit_was : old.transit from to ≡ bytes ++ new.transit from to
     transit_was =
@@ -488,42 +488,42 @@ module _ {W : Type 0} (is_after : W → List Call → Type 0) (pieces : PiecesCo
     abbrev behind : List ℕ
     behind = new.transit from to ++ unsent (end_at old from to)
 
-    old_wire_is : wire_at net.wires from to ≡ wire_of begun_there (bytes ++ behind)
-    old_wire_is =
-        same.as_bytes.wires from to
-        ∙ same_wire (begun_or_none (begun_at (end_at old to from))) begun_there
+    old_pipe_is : pipe_at net.pipes from to ≡ pipe_of begun_there (bytes ++ behind)
+    old_pipe_is =
+        same.as_bytes.pipes from to
+        ∙ same_pipe (begun_or_none (begun_at (end_at old to from))) begun_there
         (old.transit from to ++ unsent (end_at old from to)) (bytes ++ behind)
         (ap (λ o. begun_or_none (begun_at o)) (end_was from conn reads.is_end))
         (ap (λ xs. xs ++ unsent (end_at old from to)) transit_was
         ∙ append_assoc bytes (new.transit from to) (unsent (end_at old from to)))
 
-    abbrev wires_now : Wires
-    wires_now = wires_come net from to count
+    abbrev pipes_now : Pipes
+    pipes_now = pipes_come net from to count
 
     abbrev off : ByteNetwork
-    off = record { network = net.network; wires = wires_now }
+    off = record { network = net.network; pipes = pipes_now }
 
-    wire_elsewhere : (x y : ℕ) → (x ≡ from → y ≡ to → ⊥)
-        → wire_at wires_now x y ≡ wire_at net.wires x y
-    wire_elsewhere x y apart_from =
-        by (wire_set from to (advanced count (wire_at net.wires from to)) net.wires x y)
+    pipe_elsewhere : (x y : ℕ) → (x ≡ from → y ≡ to → ⊥)
+        → pipe_at pipes_now x y ≡ pipe_at net.pipes x y
+    pipe_elsewhere x y apart_from =
+        by (pipe_set from to (advanced count (pipe_at net.pipes from to)) net.pipes x y)
       where
-        by : IsSetAt from to (advanced count (wire_at net.wires from to)) net.wires x y
-            → wire_at wires_now x y ≡ wire_at net.wires x y
+        by : IsSetAt from to (advanced count (pipe_at net.pipes from to)) net.pipes x y
+            → pipe_at pipes_now x y ≡ pipe_at net.pipes x y
         by (it one two is) = absurd (apart_from one two)
         by (nowhere one two is was) = absurd (apart_from one two)
         by (other_from two is) = is
         by (other_to two is) = is
 
-    wire_come : wire_at wires_now from to ≡ advanced count (wire_at net.wires from to)
-    wire_come = by (wire_set from to (advanced count (wire_at net.wires from to)) net.wires from to)
+    pipe_come : pipe_at pipes_now from to ≡ advanced count (pipe_at net.pipes from to)
+    pipe_come = by (pipe_set from to (advanced count (pipe_at net.pipes from to)) net.pipes from to)
       where
-        by : IsSetAt from to (advanced count (wire_at net.wires from to)) net.wires from to
-            → wire_at wires_now from to ≡ advanced count (wire_at net.wires from to)
+        by : IsSetAt from to (advanced count (pipe_at net.pipes from to)) net.pipes from to
+            → pipe_at pipes_now from to ≡ advanced count (pipe_at net.pipes from to)
         by (it one two is) = is
         by (nowhere one two is was) =
             is
-            ∙ same_wire nothing_begun (begun_behind nothing_begun (take count [])) []
+            ∙ same_pipe nothing_begun (begun_behind nothing_begun (take count [])) []
             (drop count [])
             (sym (ap (begun_behind nothing_begun) (take-nil count)
             ∙ (pieces nothing_begun new_is_real).none_begun)) (sym (drop-nil count))
@@ -531,10 +531,10 @@ module _ {W : Type 0} (is_after : W → List Call → Type 0) (pieces : PiecesCo
         by (other_from two is) = cc (sym (eq-eqb from from refl) ∙ two)
         by (other_to two is) = cc (sym (eq-eqb to to refl) ∙ two)
 
-    from_read : wire_at wires_now from to ≡ wire_between new from to
+    from_read : pipe_at pipes_now from to ≡ pipe_between new from to
     from_read =
-        wire_come ∙ ap (advanced count) old_wire_is
-        ∙ same_wire (begun_behind begun_there (take count (bytes ++ behind)))
+        pipe_come ∙ ap (advanced count) old_pipe_is
+        ∙ same_pipe (begun_behind begun_there (take count (bytes ++ behind)))
         (begun_or_none (begun_at (end_at new to from)))
         (drop count (bytes ++ behind)) (new.transit from to ++ unsent (end_at new from to))
         (ap (begun_behind begun_there) (take-append_seam bytes behind)
@@ -567,76 +567,76 @@ module _ {W : Type 0} (is_after : W → List Call → Type 0) (pieces : PiecesCo
           step.reads x ∙ ap (λ o. taken_at o step.did.calls ++ new.transit x to) is
           ∙ ap (λ xs. xs ++ new.transit x to) (none_taken q is)
 
-      from_other : wire_at wires_now x to ≡ wire_between new x to
+      from_other : pipe_at pipes_now x to ≡ pipe_between new x to
       from_other =
-          wire_elsewhere x to (λ one there. cc (sym (eq-eqb x from one) ∙ other))
-          ∙ same.as_bytes.wires x to
-          ∙ same_wire (begun_or_none (begun_at (end_at old to x))) (begun_or_none
+          pipe_elsewhere x to (λ one there. cc (sym (eq-eqb x from one) ∙ other))
+          ∙ same.as_bytes.pipes x to
+          ∙ same_pipe (begun_or_none (begun_at (end_at old to x))) (begun_or_none
           (begun_at (end_at new to x))) (old.transit x to ++ unsent (end_at old x to))
           (new.transit x to ++ unsent (end_at new x to)) (begun_from (old.ends to x) refl)
           (ap (λ xs. xs ++ unsent (end_at old x to)) (transit_from (old.ends to x) refl)
           ∙ ap (λ o. new.transit x to ++ unsent o) (sym (end_there x to two)))
 
     -- what is coming to this server
-    incoming : (x : ℕ) → nat_eq x to ≡ false → wire_at off.wires x to ≡ wire_between new x to
+    incoming : (x : ℕ) → nat_eq x to ≡ false → pipe_at off.pipes x to ≡ pipe_between new x to
     incoming x two = by (nat_eq x from) refl
       where
-        by : (b : Bool) → nat_eq x from ≡ b → wire_at wires_now x to ≡ wire_between new x to
+        by : (b : Bool) → nat_eq x from ≡ b → pipe_at pipes_now x to ≡ pipe_between new x to
         by true one =
-            subst (λ n. wire_at wires_now n to ≡ wire_between new n to)
+            subst (λ n. pipe_at pipes_now n to ≡ pipe_between new n to)
             (sym (eqb-true x from one)) from_read
         by false other = from_other x two other
 
-    outgoing : (y : ℕ) → wire_at off.wires to y ≡ wire_between old to y
+    outgoing : (y : ℕ) → pipe_at off.pipes to y ≡ pipe_between old to y
     outgoing y =
-        wire_elsewhere to y (λ one there. cc (sym (eq-eqb from to (sym one))
-        ∙ not_to from conn reads.is_end)) ∙ same.as_bytes.wires to y
+        pipe_elsewhere to y (λ one there. cc (sym (eq-eqb from to (sym one))
+        ∙ not_to from conn reads.is_end)) ∙ same.as_bytes.pipes to y
 
     elsewhere : (x y : ℕ) → nat_eq x to ≡ false → nat_eq y to ≡ false
-        → wire_at off.wires x y ≡ wire_between old x y
-    elsewhere x y two other = wire_elsewhere x y (λ one there. cc (sym (eq-eqb y to there) ∙ other))
-        ∙ same.as_bytes.wires x y
+        → pipe_at off.pipes x y ≡ pipe_between old x y
+    elsewhere x y two other = pipe_elsewhere x y (λ one there. cc (sym (eq-eqb y to there) ∙ other))
+        ∙ same.as_bytes.pipes x y
 
-    off_rows : length wires_now ≡ length net.network.nodes
+    off_rows : length pipes_now ≡ length net.network.nodes
     off_rows = rows_after_lines net from to count [] []
-        (begun net.network) wires_now same.as_bytes.tidy.rows refl refl
+        (begun net.network) pipes_now same.as_bytes.tidy.rows refl refl
 
     off_tidy : IsTidy off
     off_tidy = record {
       quiet = same.as_bytes.tidy.quiet;
       rows = off_rows;
       lean = lean_with from to
-          (advanced count (wire_at net.wires from to)) net.wires same.as_bytes.tidy.lean;
+          (advanced count (pipe_at net.pipes from to)) net.pipes same.as_bytes.tidy.lean;
     }
 
     -- ---- bytes come
 
     completed_is : completed_in net from to count ≡ lines_told conn events
-    completed_is = ap (lines_by count) old_wire_is
+    completed_is = ap (lines_by count) old_pipe_is
         ∙ ap (completed begun_there) (take-append_seam bytes behind) ∙ sym lines_are
 
     net_is : (bytes_come from to count (begun net)).state
-        ≡ queues_written came_first.state wires_now
+        ≡ queues_written came_first.state pipes_now
     unfolding bytes_come
     net_is = ap
-        (λ ls. queues_written (all_heard from to (begun net.network) ls).state wires_now)
+        (λ ls. queues_written (all_heard from to (begun net.network) ls).state pipes_now)
         completed_is
 
-    is_so : IsWritten came_first.state wires_now (queues_written came_first.state wires_now)
+    is_so : IsWritten came_first.state pipes_now (queues_written came_first.state pipes_now)
     is_so =
-        is_written came_first.state wires_now (lean_with from to
-        (advanced count (wire_at net.wires from to)) net.wires same.as_bytes.tidy.lean)
+        is_written came_first.state pipes_now (lean_with from to
+        (advanced count (pipe_at net.pipes from to)) net.pipes same.as_bytes.tidy.lean)
         (rows_after_lines net from to count
-        (lines_told conn events) [] came_first wires_now same.as_bytes.tidy.rows refl refl)
+        (lines_told conn events) [] came_first pipes_now same.as_bytes.tidy.rows refl refl)
 
-    went : Went to numbers last.state all_outs off (queues_written came_first.state wires_now)
+    went : Went to numbers last.state all_outs off (queues_written came_first.state pipes_now)
     went =
         listened to numbers begin_view.state last.state all_events all_outs off came_first.state
         off_tidy
         ways_here hears_all is_so
 
     abbrev after : ByteNetwork
-    after = queues_written came_first.state wires_now
+    after = queues_written came_first.state pipes_now
 
     -- ---- seats stay
 
@@ -720,7 +720,7 @@ module _ {W : Type 0} (is_after : W → List Call → Type 0) (pieces : PiecesCo
       bytes_came = record {
         front = bytes;
         rest = behind;
-        bytes_are = ap (λ (w : LinkWire). w.bytes) old_wire_is;
+        bytes_are = ap (λ (w : LinkPipe). w.bytes) old_pipe_is;
         way = same.as_bytes.ways from to ∙ same.are_joined.both_ways from to ∙ told_of_links from
             ∙ ap is_some reads.is_end;
         state = views.theirs;

@@ -20,7 +20,7 @@ use Rattle.irc_world.specs.Stepping.{Item, cut, link}
 use Rattle.irc_world.specs.WithinLimits.{IsItemWithin}
 use Rattle.irc_world.specs.World.{Setting}
 use Rattle.irc_network.specs.Network.{begun, node_asked}
-use Rattle.irc_wires.specs.Wires.{new_wire, wire_at}
+use Rattle.irc_pipes.specs.Pipes.{new_pipe, pipe_at}
 use Rattle.irc_relay.specs.Laws.{LinkTakenOut}
 use Rattle.irc_world.specs.Laws.{WorldIsSound}
 use Rattle.irc_network.specs.ByteNetwork.{ByteNetwork, is_byte_rest, item_given, net_in_lines}
@@ -189,7 +189,7 @@ module _ {W : Type 0} (is_after : W → List Call → Type 0) (pieces : PiecesCo
             (same_received : base.network.received ≡ net.network.received)
             (ways : (x y : ℕ)
             → has_way base.network x y ≡ way_set old place other (is_way_by mine) x y)
-            (wires : (x y : ℕ) → wire_at base.wires x y ≡ wire_at net.wires x y)
+            (pipes : (x y : ℕ) → pipe_at base.pipes x y ≡ pipe_at net.pipes x y)
             (tidy : IsTidy base)
             (lacks : LacksOne other (read_event_by theirs place)
             (one_asked item place (read_event_by mine other) base) full)
@@ -246,7 +246,7 @@ module _ {W : Type 0} (is_after : W → List Call → Type 0) (pieces : PiecesCo
               same =
                   told_followed is_after pieces lines_end own_law stay connected alike_law names
                   mine place other old new telling two net whole.same once base servers
-                  same_names same_homes same_received ways wires tidy
+                  same_names same_homes same_received ways pipes tidy
                   (λ y. told_set place y (λ back. cc (sym two ∙ eq-eqb place other back)))
                   (λ lost y. still y place) (λ lost. still place other) item;
               placed = λ x name is.
@@ -313,12 +313,12 @@ module _ {W : Type 0} (is_after : W → List Call → Type 0) (pieces : PiecesCo
                   half_told (is_up (Some far)) (is_up None) (link near far) telling ok.apart refl
                   base (both_asked (link near far) place other on off base) is.servers
                   is.names is.homes is.received (λ x y. is.ways x y ∙ ap (λ w. if_way x y true w)
-                  (whole.same.as_bytes.ways x y)) is.wires is.tidy halves.far_last
+                  (whole.same.as_bytes.ways x y)) is.pipes is.tidy halves.far_last
                   (given_link net near far place other (placed place near at)
                   (placed other far there)) ok.taken tt
                   (all_is_still None refl (λ x y not_it.
                   still_but_one (link near far) place on base one.state is.tidy
-                  (λ x y. is.wires x y ∙ still x y) (is.servers place ∙ one.at) other
+                  (λ x y. is.pipes x y ∙ still x y) (is.servers place ∙ one.at) other
                   (λ y two. link_alone one.state other y two (Some far)) x y not_it))
 
           -- the server that was called is told first
@@ -352,12 +352,12 @@ module _ {W : Type 0} (is_after : W → List Call → Type 0) (pieces : PiecesCo
                   (λ x y.
                   is.ways x y ∙ ap (λ w. if_back x y true w) (whole.same.as_bytes.ways x y)
                   ∙ either_first (nat_eq x other) (nat_eq y place) (nat_eq x place)
-                  (nat_eq y other) true (old.ways x y)) is.wires is.tidy halves.near_last
+                  (nat_eq y other) true (old.ways x y)) is.pipes is.tidy halves.near_last
                   (given_link net near far other place (placed other near there)
                   (placed place far at)) ok.taken tt
                   (all_is_still (Some far) refl (λ x y not_it.
                   still_but_one (link near far) place off base another.state is.tidy
-                  (λ x y. is.wires x y ∙ still x y) (is.servers place ∙ another.at) other
+                  (λ x y. is.pipes x y ∙ still x y) (is.servers place ∙ another.at) other
                   (λ y two. link_alone another.state other y two None) x y not_it))
 
           -- one loses the link
@@ -400,13 +400,13 @@ module _ {W : Type 0} (is_after : W → List Call → Type 0) (pieces : PiecesCo
                   half_told is_lost is_lost (cut near far) telling not_same refl base
                   (both_asked (cut near far) place other on off base) is.servers
                   is.names is.homes is.received (λ x y. is.ways x y ∙ ap (λ w. if_way x y false w)
-                  (whole.same.as_bytes.ways x y)) is.wires is.tidy halves.far_last
+                  (whole.same.as_bytes.ways x y)) is.pipes is.tidy halves.far_last
                   (given_cut net near far place other (placed place near at)
                   (placed other far there))
                   (may_cut rest_law net whole.going.kept rest near far place other
                   (at_net place near at) (at_net other far there) linked) tt
                   (side_is_still sides.side refl sides.far_side
-                  (aside_first (cut near far) place on base one.state is.tidy (λ x y. is.wires x y
+                  (aside_first (cut near far) place on base one.state is.tidy (λ x y. is.pipes x y
                   ∙ still x y) (is.servers place ∙ one.at) sides.side sides.stays
                   sides.near_side))
 
@@ -496,17 +496,17 @@ module _ {W : Type 0} (is_after : W → List Call → Type 0) (pieces : PiecesCo
                 ∙ ap is_some (sym (end_elsewhere old of_place of_other
                 (end_by owing.tidings telling.conn) x y away))
 
-        still_in : owing.tidings ≡ is_lost → (y : ℕ) → wire_at half.less.wires y of_place ≡ new_wire
+        still_in : owing.tidings ≡ is_lost → (y : ℕ) → pipe_at half.less.pipes y of_place ≡ new_pipe
         still_in lost y = by half.still
           where
-            by : IsStillFor owing half.less → wire_at half.less.wires y of_place ≡ new_wire
+            by : IsStillFor owing half.less → pipe_at half.less.pipes y of_place ≡ new_pipe
             by (side_is_still side is far aside) = nothing_comes side half.less aside of_place far y
             by (all_is_still called up all) = cc (sym lost ∙ up)
 
-        still_out : owing.tidings ≡ is_lost → wire_at half.less.wires of_place of_other ≡ new_wire
+        still_out : owing.tidings ≡ is_lost → pipe_at half.less.pipes of_place of_other ≡ new_pipe
         still_out lost = by half.still
           where
-            by : IsStillFor owing half.less → wire_at half.less.wires of_place of_other ≡ new_wire
+            by : IsStillFor owing half.less → pipe_at half.less.pipes of_place of_other ≡ new_pipe
             by (side_is_still side is far aside) = aside.still of_place of_other far
             by (all_is_still called up all) = cc (sym lost ∙ up)
 
@@ -519,7 +519,7 @@ module _ {W : Type 0} (is_after : W → List Call → Type 0) (pieces : PiecesCo
 
         abbrev asked_alone : ByteNetwork
         asked_alone = queues_written (node_asked of_place (read_event_by owing.tidings of_other)
-            (begun half.less.network)).state half.less.wires
+            (begun half.less.network)).state half.less.pipes
 
         same_asked : IsAsNetwork names new asked_then
         same_asked =
@@ -535,7 +535,7 @@ module _ {W : Type 0} (is_after : W → List Call → Type 0) (pieces : PiecesCo
         alone_same = record {
           servers = λ x. refl;
           ways = λ x y. refl;
-          wires = λ x y. refl;
+          pipes = λ x y. refl;
           names = refl;
           homes = refl;
           come = λ client. come_of_nodes asked_then.network asked_alone.network refl client;

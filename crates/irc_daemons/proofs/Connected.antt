@@ -54,7 +54,7 @@ empty_last (x ∷ xs) (suc n) = empty_last xs n
 -- ---- the network with one client more
 
 abbrev pub with_one : Name → ByteNetwork → ByteNetwork
-with_one name net = record { network = with_client name net.network; wires = net.wires }
+with_one name net = record { network = with_client name net.network; pipes = net.pipes }
 
 pub same_bytes : (name : Name) (net : Network) (client : ℕ)
     → bytes_received (with_client name net) client ≡ bytes_received net client
@@ -71,18 +71,18 @@ pub given_connect : (net : ByteNetwork) (place client : ℕ) (name host : List �
     → server_place net.network name ≡ Some place → next_client net.network ≡ client
     → (item_given (connect name host) net).state
     ≡ queues_written (item_kept (connect name host) (node_asked place (of_client
-    (connects client host)) (begun (with_client name net.network)))).state net.wires
+    (connects client host)) (begun (with_client name net.network)))).state net.pipes
 unfolding item_given given
 given_connect net place client name host at next =
     ap
     (λ o. queues_written
     (item_kept (connect name host) (node_asked_if o (of_client (connects (next_client net.network)
-    host)) (begun (with_client name net.network)))).state net.wires)
+    host)) (begun (with_client name net.network)))).state net.pipes)
     at
     ∙ ap
     (λ n. queues_written
     (item_kept (connect name host) (node_asked place (of_client (connects n host))
-    (begun (with_client name net.network)))).state net.wires) next
+    (begun (with_client name net.network)))).state net.pipes) next
 
 pub not_refused_here : (net : Network) (place : ℕ) (name host : List ℕ)
     → server_place net name ≡ Some place → fault_at_rest net (connect name host) ≡ None

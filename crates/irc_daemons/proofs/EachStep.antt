@@ -17,7 +17,7 @@ use Rattle.irc_server.specs.LineEnds.{ServedLinesEnd}
 use Rattle.irc_server.specs.Own.{ServedGoesToItsOwn}
 use Rattle.irc_network.specs.Network.{Node, node_at}
 use Rattle.irc_network.specs.ByteNetwork.{ByteNetwork}
-use Rattle.irc_wires.specs.Lemmas.StillWires.{one_of}
+use Rattle.irc_pipes.specs.Lemmas.StillPipes.{one_of}
 use Rattle.irc_daemons.specs.AsNetwork.{HasFollowed, IsAsNetwork}
 use Rattle.irc_daemons.specs.Daemons.{Daemons, IsToldOfLinks}
 use Rattle.irc_daemons.specs.Alike.{ServedAlike}

@@ -16,7 +16,7 @@ use Rattle.irc_server.specs.LineEnds.{ServedLinesEnd}
 use Rattle.irc_server.specs.Own.{ServedGoesToItsOwn}
 use Rattle.irc_network.specs.Network.{Progress, Network, Served, Node, begun, item_kept, reply}
 use Rattle.irc_network.specs.Network.{node_asked, waiting}
-use Rattle.irc_wires.specs.Wires.{LinkWire, wire_at}
+use Rattle.irc_pipes.specs.Pipes.{LinkPipe, pipe_at}
 use Rattle.irc_network.specs.Behind.{emptied, emptied_node}
 use Rattle.irc_network.specs.ByteNetwork.{ByteNetwork, all_written, queues_written, waiting_at}
 use Rattle.irc_network.specs.Loops.Writing.{IsWritten}
@@ -64,8 +64,8 @@ bytes_of_nodes old new same (suc earlier) = ap (λ (lines : List (List (List ℕ
 -- ---- where a network has come to by what one server put out
 
 -- bytes behind those that are on their way
-abbrev pub wire_behind : List ℕ → LinkWire → LinkWire
-wire_behind bytes wire = record { begun = wire.begun; bytes = wire.bytes ++ bytes }
+abbrev pub pipe_behind : List ℕ → LinkPipe → LinkPipe
+pipe_behind bytes pipe = record { begun = pipe.begun; bytes = pipe.bytes ++ bytes }
 
 pub record Went (place : ℕ) (numbers : Numbers) (last : View) (outs : List Sent)
     (old new : ByteNetwork) : Type 0 where
@@ -74,12 +74,12 @@ pub record Went (place : ℕ) (numbers : Numbers) (last : View) (outs : List Sen
   pub server : server_at new.network place ≡ Some (Some state)
   pub others : (x : ℕ) → nat_eq x place ≡ false → server_at new.network x ≡ server_at old.network x
   pub ways : (x y : ℕ) → has_way new.network x y ≡ has_way old.network x y
-  pub wires_there : (x y : ℕ) → nat_eq x place ≡ false
-      → wire_at new.wires x y ≡ wire_at old.wires x y
+  pub pipes_there : (x y : ℕ) → nat_eq x place ≡ false
+      → pipe_at new.pipes x y ≡ pipe_at old.pipes x y
   pub no_way : (y : ℕ) → numbers.link y ≡ None
-      → wire_at new.wires place y ≡ wire_at old.wires place y
-  pub wires_here : (y q : ℕ) → numbers.link y ≡ Some q → is_closed_by q outs ≡ false
-      → wire_at new.wires place y ≡ wire_behind (answers q outs) (wire_at old.wires place y)
+      → pipe_at new.pipes place y ≡ pipe_at old.pipes place y
+  pub pipes_here : (y q : ℕ) → numbers.link y ≡ Some q → is_closed_by q outs ≡ false
+      → pipe_at new.pipes place y ≡ pipe_behind (answers q outs) (pipe_at old.pipes place y)
   pub tidy : IsTidy new
   pub keeps : KeepsHomes old.network new.network
   pub come : (client : ℕ) → has_come new.network client ≡ has_come old.network client
@@ -99,11 +99,11 @@ went_nowhere place numbers own other net alike at tidy = record {
   server = at;
   others = λ x two. refl;
   ways = λ x y. refl;
-  wires_there = λ x y two. refl;
+  pipes_there = λ x y two. refl;
   no_way = λ y none. refl;
-  wires_here = λ y q link opened. λ i. record {
-    begun = (wire_at net.wires place y).begun;
-    bytes = sym (append-nil (wire_at net.wires place y).bytes) i;
+  pipes_here = λ y q link opened. λ i. record {
+    begun = (pipe_at net.pipes place y).begun;
+    bytes = sym (append-nil (pipe_at net.pipes place y).bytes) i;
   };
   tidy = tidy;
   keeps = record { names = refl; homes = refl; inboxes = refl };
@@ -133,17 +133,17 @@ went_both place numbers between last a b old mid new one two quiet = record {
   server = two.server;
   others = λ x other. two.others x other ∙ one.others x other;
   ways = λ x y. two.ways x y ∙ one.ways x y;
-  wires_there = λ x y other. two.wires_there x y other ∙ one.wires_there x y other;
+  pipes_there = λ x y other. two.pipes_there x y other ∙ one.pipes_there x y other;
   no_way = λ y none. two.no_way y none ∙ one.no_way y none;
-  wires_here = λ y q link opened.
+  pipes_here = λ y q link opened.
       let parts = or_parts (is_closed_by q a) (is_closed_by q b)
       (sym (is_closed_by-append q a b) ∙ opened) in
-      two.wires_here y q link parts.1
-      ∙ ap (wire_behind (answers q b)) (one.wires_here y q link parts.0)
+      two.pipes_here y q link parts.1
+      ∙ ap (pipe_behind (answers q b)) (one.pipes_here y q link parts.0)
       ∙ (λ i. record {
-        begun = (wire_at old.wires place y).begun;
-        bytes = (append_assoc (wire_at old.wires place y).bytes (answers q a) (answers q b)
-            ∙ ap (λ bs. (wire_at old.wires place y).bytes ++ bs)
+        begun = (pipe_at old.pipes place y).begun;
+        bytes = (append_assoc (pipe_at old.pipes place y).bytes (answers q a) (answers q b)
+            ∙ ap (λ bs. (pipe_at old.pipes place y).bytes ++ bs)
             (same_answers q a b (λ closed. cc (sym parts.0 ∙ closed)))) i;
       });
   tidy = two.tidy;
@@ -191,7 +191,7 @@ module _ (lines_end : ServedLinesEnd) (own_law : ServedGoesToItsOwn) (alike_law 
     kept = (item_kept item asked).state
 
     abbrev now : ByteNetwork
-    now = queues_written kept old.wires
+    now = queues_written kept old.pipes
 
     said : ServeAlike before own (renumbered conn read_event) other read_event
     said = alike_law before own other read_event conn apart alike happens
@@ -202,8 +202,8 @@ module _ (lines_end : ServedLinesEnd) (own_law : ServedGoesToItsOwn) (alike_law 
     gets : Gets (λ q. client_bytes q theirs.out) old.network asked.state
     gets = asked_gets place read_event other (begun old.network) at
 
-    is_so : IsWritten kept old.wires now
-    is_so = is_written kept old.wires tidy.lean
+    is_so : IsWritten kept old.pipes now
+    is_so = is_written kept old.pipes tidy.lean
         (tidy.rows ∙ sym (asked_stays place read_event (begun old.network)))
 
     waits_there : (x y : ℕ) → nat_eq x place ≡ false → waiting_at kept x y ≡ []
@@ -222,13 +222,13 @@ module _ (lines_end : ServedLinesEnd) (own_law : ServedGoesToItsOwn) (alike_law 
     ways_at x y false two = ap
         (λ o. is_some (option_and_then (λ (node : Node). get node.queues y) o)) (here.others x two)
 
-    wire_now : (y q : ℕ) → numbers.link y ≡ Some q → is_closed_by q mine.out ≡ false
-        → wire_at now.wires place y ≡ wire_behind (answers q mine.out) (wire_at old.wires place y)
-    wire_now y q link opened =
-        is_so.wires_are place y
-        ∙ ap (λ ls. all_written ls (wire_at old.wires place y)) (waits_here y q link)
-        ∙ written_all (bodies y theirs.out) (wire_at old.wires place y)
-        ∙ ap (λ bs. wire_behind bs (wire_at old.wires place y))
+    pipe_now : (y q : ℕ) → numbers.link y ≡ Some q → is_closed_by q mine.out ≡ false
+        → pipe_at now.pipes place y ≡ pipe_behind (answers q mine.out) (pipe_at old.pipes place y)
+    pipe_now y q link opened =
+        is_so.pipes_are place y
+        ∙ ap (λ ls. all_written ls (pipe_at old.pipes place y)) (waits_here y q link)
+        ∙ written_all (bodies y theirs.out) (pipe_at old.pipes place y)
+        ∙ ap (λ bs. pipe_behind bs (pipe_at old.pipes place y))
         (bodies_are y theirs.out (reply_ends lines_end other read_event)
         ∙ sym (said.say.on_links y q (then_are.links y q link) opened))
 
@@ -262,13 +262,13 @@ module _ (lines_end : ServedLinesEnd) (own_law : ServedGoesToItsOwn) (alike_law 
       others = λ x two. emptied_server kept x
           ∙ ap (option_map (λ (s : Node). s.server)) (here.others x two);
       ways = λ x y. emptied_ways kept x y ∙ ways_at x y (nat_eq x place) refl;
-      wires_there = λ x y two. is_so.wires_are x y
-          ∙ ap (λ ls. all_written ls (wire_at old.wires x y)) (waits_there x y two);
+      pipes_there = λ x y two. is_so.pipes_are x y
+          ∙ ap (λ ls. all_written ls (pipe_at old.pipes x y)) (waits_there x y two);
       no_way = λ y none.
-          is_so.wires_are place y
-          ∙ ap (λ ls. all_written ls (wire_at old.wires place y))
+          is_so.pipes_are place y
+          ∙ ap (λ ls. all_written ls (pipe_at old.pipes place y))
           (no_way_waits kept place y (here.ways y ∙ then_are.ways y ∙ ap is_some none));
-      wires_here = wire_now;
+      pipes_here = pipe_now;
       tidy = record { quiet = emptied_waits kept; rows = is_so.rows; lean = is_so.lean };
       keeps = keeps_now;
       come = come_now;
@@ -304,7 +304,7 @@ module _ (lines_end : ServedLinesEnd) (own_law : ServedGoesToItsOwn) (alike_law 
     pub item_went : Went place numbers (reply own (renumbered conn read_event)).state
         (reply own (renumbered conn read_event)).out old
         (queues_written
-        (item_kept item (node_asked place read_event (begun old.network))).state old.wires)
+        (item_kept item (node_asked place read_event (begun old.network))).state old.pipes)
     item_went =
         asked_went lines_end own_law alike_law place numbers apart own other read_event conn happens
         alike old tidy at numbers same_then item

@@ -17,11 +17,11 @@ use Rattle.irc_stage.specs.View.{View}
 use Rattle.irc_network.specs.Network.{Progress, Network, Node, begun, heard, line_counted}
 use Rattle.irc_network.specs.Network.{node_asked}
 use Rattle.irc_network.specs.Network.{waiting}
-use Rattle.irc_wires.specs.Wires.{AreLean, LinkWire, Wires, advanced, new_wire, wire_at}
-use Rattle.irc_wires.specs.Lemmas.PutWires.{IsSetAt, it, nowhere, other_from, other_to, wire_set}
+use Rattle.irc_pipes.specs.Pipes.{AreLean, LinkPipe, Pipes, advanced, new_pipe, pipe_at}
+use Rattle.irc_pipes.specs.Lemmas.PutPipes.{IsSetAt, it, nowhere, other_from, other_to, pipe_set}
 use Rattle.irc_network.specs.ByteNetwork.{ByteNetwork, all_heard, all_written}
 use Rattle.irc_network.specs.ByteNetwork.{bytes_come, completed_in, queues_written, waiting_at}
-use Rattle.irc_network.specs.ByteNetwork.{wires_come}
+use Rattle.irc_network.specs.ByteNetwork.{pipes_come}
 use Rattle.irc_network.specs.Loops.Writing.{IsWritten}
 use Rattle.irc_network.specs.Whole.{IsTidy, has_way}
 use Rattle.irc_network.specs.Lemmas.Emptied.{emptied_waits, emptied_ways}
@@ -31,7 +31,7 @@ use Rattle.irc_network.specs.Lemmas.RowsWritten.{is_written, lean_with}
 use Rattle.irc_network.specs.Lemmas.NodesStay.{asked_stays}
 use Rattle.irc_daemons.specs.Alike.{bytes_to, client_bytes}
 use Rattle.irc_daemons.specs.Receiving.{bytes_received}
-use Rattle.irc_daemons.proofs.Given.{bytes_of_nodes, come_of_nodes, emptied_server, wire_behind}
+use Rattle.irc_daemons.proofs.Given.{bytes_of_nodes, come_of_nodes, emptied_server, pipe_behind}
 use Rattle.irc_daemons.proofs.Homes.{KeepsHomes, asked_keeps, keeps_both, keeps_same}
 use Rattle.irc_daemons.proofs.OwnClients.{all_replies, then_reply}
 use Rattle.irc_daemons.proofs.Single.{no_way_waits}
@@ -121,22 +121,22 @@ lines_replied from to (line ∷ lines) view progress at =
 
 -- ---- once it is written
 
--- The server at a place is as this reply has it, and what it put out is on these wires, or has come
+-- The server at a place is as this reply has it, and what it put out is on these pipes, or has come
 -- to clients; all else is as it was.
-pub record GoesOn (place : ℕ) (next : Served) (along : Wires) (old new : ByteNetwork) : Type 0 where
+pub record GoesOn (place : ℕ) (next : Served) (along : Pipes) (old new : ByteNetwork) : Type 0 where
   pub server : server_at new.network place ≡ Some (Some next.state)
   pub others : (x : ℕ) → nat_eq x place ≡ false → server_at new.network x ≡ server_at old.network x
   pub ways : (x y : ℕ) → has_way new.network x y ≡ has_way old.network x y
-  pub wires_there : (x y : ℕ) → nat_eq x place ≡ false → wire_at new.wires x y ≡ wire_at along x y
-  pub wires_here : (y : ℕ) → has_way old.network place y ≡ true → wire_at new.wires place y
-      ≡ wire_behind (with_ends (bodies y next.out)) (wire_at along place y)
+  pub pipes_there : (x y : ℕ) → nat_eq x place ≡ false → pipe_at new.pipes x y ≡ pipe_at along x y
+  pub pipes_here : (y : ℕ) → has_way old.network place y ≡ true → pipe_at new.pipes place y
+      ≡ pipe_behind (with_ends (bodies y next.out)) (pipe_at along place y)
   pub no_way : (y : ℕ) → has_way old.network place y ≡ false
-      → wire_at new.wires place y ≡ wire_at along place y
+      → pipe_at new.pipes place y ≡ pipe_at along place y
   pub keeps : KeepsHomes old.network new.network
   pub gets : Gets (λ q. client_bytes q next.out) old.network new.network
   pub tidy : IsTidy new
 
-module _ (place : ℕ) (next : Served) (along : Wires) (old : ByteNetwork) (mid : Network)
+module _ (place : ℕ) (next : Served) (along : Pipes) (old : ByteNetwork) (mid : Network)
     (tidy : IsTidy old) (lean : AreLean along)
     (rows : length along ≡ length mid.nodes) (done : HasReplied place next old.network mid)
   where
@@ -169,14 +169,14 @@ module _ (place : ℕ) (next : Served) (along : Wires) (old : ByteNetwork) (mid 
       others = λ x two. emptied_server mid x
           ∙ ap (option_map (λ (s : Node). s.server)) (done.replies.others x two);
       ways = λ x y. emptied_ways mid x y ∙ ways_at x y (nat_eq x place) refl;
-      wires_there = λ x y two. is_so.wires_are x y
-          ∙ ap (λ ls. all_written ls (wire_at along x y)) (waits_there x y two);
-      wires_here = λ y way.
-          is_so.wires_are place y
-          ∙ ap (λ ls. all_written ls (wire_at along place y)) (waits_here y way)
-          ∙ written_all (bodies y next.out) (wire_at along place y);
+      pipes_there = λ x y two. is_so.pipes_are x y
+          ∙ ap (λ ls. all_written ls (pipe_at along x y)) (waits_there x y two);
+      pipes_here = λ y way.
+          is_so.pipes_are place y
+          ∙ ap (λ ls. all_written ls (pipe_at along place y)) (waits_here y way)
+          ∙ written_all (bodies y next.out) (pipe_at along place y);
       no_way = λ y none.
-          is_so.wires_are place y ∙ ap (λ ls. all_written ls (wire_at along place y))
+          is_so.pipes_are place y ∙ ap (λ ls. all_written ls (pipe_at along place y))
           (no_way_waits mid place y (done.replies.ways y ∙ none));
       keeps = record {
         names = done.keeps.names;
@@ -194,20 +194,20 @@ module _ (place : ℕ) (next : Served) (along : Wires) (old : ByteNetwork) (mid 
 
 pub asked_goes_on : (place : ℕ) (read_event : ReadEvent) (view : View) (net : ByteNetwork)
     → IsTidy net → server_at net.network place ≡ Some (Some view)
-    → GoesOn place (reply view read_event) net.wires net
-    (queues_written (node_asked place read_event (begun net.network)).state net.wires)
+    → GoesOn place (reply view read_event) net.pipes net
+    (queues_written (node_asked place read_event (begun net.network)).state net.pipes)
 asked_goes_on place read_event view net tidy at =
-    goes_on place (reply view read_event) net.wires net
+    goes_on place (reply view read_event) net.pipes net
     (node_asked place read_event (begun net.network)).state tidy tidy.lean
     (tidy.rows ∙ sym (asked_stays place read_event (begun net.network)))
     (asked_replied place read_event view (begun net.network) at)
 
 -- ---- bytes come
 
-abbrev pub come_if : ℕ → Bool → LinkWire → LinkWire
-come_if count b wire = if b then advanced count wire else wire
+abbrev pub come_if : ℕ → Bool → LinkPipe → LinkPipe
+come_if count b pipe = if b then advanced count pipe else pipe
 
-no_byte_comes : (count : ℕ) → new_wire ≡ advanced count new_wire
+no_byte_comes : (count : ℕ) → new_pipe ≡ advanced count new_pipe
 no_byte_comes count = λ i. record { begun = begun_is i; bytes = sym (drop-nil count) i }
   where
     begun_is : nothing_begun ≡ begun_behind nothing_begun (take count [])
@@ -215,47 +215,47 @@ no_byte_comes count = λ i. record { begun = begun_is i; bytes = sym (drop-nil c
 
 module _ (from to count : ℕ) (net : ByteNetwork) where
   -- on the way on which they come, and on no other
-  pub come_at : (x y : ℕ) → wire_at (wires_come net from to count) x y
-      ≡ come_if count (nat_eq x from && nat_eq y to) (wire_at net.wires x y)
-  come_at x y = by (wire_set from to (advanced count (wire_at net.wires from to)) net.wires x y)
+  pub come_at : (x y : ℕ) → pipe_at (pipes_come net from to count) x y
+      ≡ come_if count (nat_eq x from && nat_eq y to) (pipe_at net.pipes x y)
+  come_at x y = by (pipe_set from to (advanced count (pipe_at net.pipes from to)) net.pipes x y)
     where
       both : x ≡ from → y ≡ to → (nat_eq x from && nat_eq y to) ≡ true
       both one two = ap (λ b. b && nat_eq y to) (eq-eqb x from one) ∙ eq-eqb y to two
 
-      comes : x ≡ from → y ≡ to → advanced count (wire_at net.wires x y)
-          ≡ come_if count (nat_eq x from && nat_eq y to) (wire_at net.wires x y)
-      comes one two = ap (λ b. come_if count b (wire_at net.wires x y)) (sym (both one two))
+      comes : x ≡ from → y ≡ to → advanced count (pipe_at net.pipes x y)
+          ≡ come_if count (nat_eq x from && nat_eq y to) (pipe_at net.pipes x y)
+      comes one two = ap (λ b. come_if count b (pipe_at net.pipes x y)) (sym (both one two))
 
-      by : IsSetAt from to (advanced count (wire_at net.wires from to)) net.wires x y
-          → wire_at (wires_come net from to count) x y ≡ come_if count
-          (nat_eq x from && nat_eq y to) (wire_at net.wires x y)
-      by (it one two is) = is ∙ (λ i. advanced count (wire_at net.wires (sym one i) (sym two i)))
+      by : IsSetAt from to (advanced count (pipe_at net.pipes from to)) net.pipes x y
+          → pipe_at (pipes_come net from to count) x y ≡ come_if count
+          (nat_eq x from && nat_eq y to) (pipe_at net.pipes x y)
+      by (it one two is) = is ∙ (λ i. advanced count (pipe_at net.pipes (sym one i) (sym two i)))
           ∙ comes one two
       by (nowhere one two is was) = is ∙ no_byte_comes count ∙ ap (advanced count) (sym was)
           ∙ comes one two
       by (other_from two is) =
-          is ∙ ap (λ b. come_if count (b && nat_eq y to) (wire_at net.wires x y)) (sym two)
+          is ∙ ap (λ b. come_if count (b && nat_eq y to) (pipe_at net.pipes x y)) (sym two)
       by (other_to two is) =
-          is ∙ ap (λ b. come_if count b (wire_at net.wires x y))
+          is ∙ ap (λ b. come_if count b (pipe_at net.pipes x y))
           (sym (and-false (nat_eq x from)) ∙ ap (λ b. nat_eq x from && b) (sym two))
 
   come_is : (bytes_come from to count (begun net)).state
       ≡ queues_written
       (all_heard from to (begun net.network) (completed_in net from to count)).state
-      (wires_come net from to count)
+      (pipes_come net from to count)
   unfolding bytes_come
   come_is = refl
 
   pub bytes_go_on : (view : View) → IsTidy net → server_at net.network to ≡ Some (Some view)
       → GoesOn to (all_replies from view (completed_in net from to count))
-      (wires_come net from to count) net (bytes_come from to count (begun net)).state
+      (pipes_come net from to count) net (bytes_come from to count (begun net)).state
   bytes_go_on view tidy at =
       let lines : List (List ℕ) = completed_in net from to count in
       let last : Progress Network = all_heard from to (begun net.network) lines in
-      subst (GoesOn to (all_replies from view lines) (wires_come net from to count) net)
+      subst (GoesOn to (all_replies from view lines) (pipes_come net from to count) net)
       (sym come_is)
-      (goes_on to (all_replies from view lines) (wires_come net from to count) net last.state tidy
-      (lean_with from to (advanced count (wire_at net.wires from to)) net.wires tidy.lean)
+      (goes_on to (all_replies from view lines) (pipes_come net from to count) net last.state tidy
+      (lean_with from to (advanced count (pipe_at net.pipes from to)) net.pipes tidy.lean)
       (rows_after_lines net from to count lines [] last
-      (wires_come net from to count) tidy.rows refl refl)
+      (pipes_come net from to count) tidy.rows refl refl)
       (lines_replied from to lines view (begun net.network) at))

@@ -14,7 +14,7 @@ use Rattle.irc_world.specs.World.{Setting}
 use Rattle.irc_network.specs.Network.{received_by}
 use Rattle.irc_items.specs.SetUp.{settings_of}
 use Rattle.irc_items.specs.Sound.{owed_now}
-use Rattle.irc_wires.specs.Wires.{LinkWire, Wires, are_still, is_still, wire_at, wire_in}
+use Rattle.irc_pipes.specs.Pipes.{LinkPipe, Pipes, are_still, is_still, pipe_at, pipe_in}
 use Rattle.irc_network.specs.ByteNetwork.{ByteNetwork, is_byte_rest}
 use Rattle.irc_net.specs.Laws.{KeptIsOwed, SettingsStay, StaysKept}
 use Rattle.irc_net.specs.OneRoom.{IsKeptSound}
@@ -57,23 +57,23 @@ module _ (stays : StaysKept) (set_up : SettingsStay) (settings : List Setting)
 
 -- ---- at rest
 
-still_row : (row : FinMap nat_cmp LinkWire) (numbers : List ℕ)
-    → ((to : ℕ) → is_still (wire_in to row) ≡ true)
-    → list_all (λ to. is_still (wire_in to row)) numbers ≡ true
+still_row : (row : FinMap nat_cmp LinkPipe) (numbers : List ℕ)
+    → ((to : ℕ) → is_still (pipe_in to row) ≡ true)
+    → list_all (λ to. is_still (pipe_in to row)) numbers ≡ true
 still_row row [] all = refl
-still_row row (to ∷ numbers) all = ap (λ b. b && list_all (λ q. is_still (wire_in q row)) numbers)
+still_row row (to ∷ numbers) all = ap (λ b. b && list_all (λ q. is_still (pipe_in q row)) numbers)
     (all to) ∙ still_row row numbers all
 
-still_rows : (wires : Wires) → ((x y : ℕ) → is_still (wire_at wires x y) ≡ true)
-    → are_still wires ≡ true
+still_rows : (pipes : Pipes) → ((x y : ℕ) → is_still (pipe_at pipes x y) ≡ true)
+    → are_still pipes ≡ true
 still_rows [] all = refl
-still_rows (row ∷ wires) all = ap (λ b. b && are_still wires) (still_row row (keys row) (all 0))
-    ∙ still_rows wires (λ x. all (suc x))
+still_rows (row ∷ pipes) all = ap (λ b. b && are_still pipes) (still_row row (keys row) (all 0))
+    ∙ still_rows pipes (λ x. all (suc x))
 
 pub quiet_rests : {W : Type 0} (names : List Name) (daemons : Daemons W) (net : ByteNetwork)
     → IsAsNetwork names daemons net → IsQuiet daemons → is_byte_rest net ≡ true
 quiet_rests names daemons net same quiet =
-    still_rows net.wires (λ x y. ap is_still (same.as_bytes.wires x y) ∙ quiet x y)
+    still_rows net.pipes (λ x y. ap is_still (same.as_bytes.pipes x y) ∙ quiet x y)
 
 -- ---- fronts
 

@@ -14,7 +14,7 @@ use Rattle.irc_network.specs.Node.{reply}
 use Rattle.irc_world.specs.Stepping.{Item}
 use Rattle.irc_network.specs.Network.{Progress, Network, Node, begun, item_kept, node_asked}
 use Rattle.irc_network.specs.Network.{waiting}
-use Rattle.irc_wires.specs.Wires.{AreLean, LinkWire, Wires, wire_at, written}
+use Rattle.irc_pipes.specs.Pipes.{AreLean, LinkPipe, Pipes, pipe_at, written}
 use Rattle.irc_network.specs.ByteNetwork.{ByteNetwork, all_written, queues_written, waiting_at}
 use Rattle.irc_network.specs.Whole.{IsTidy, has_way}
 use Rattle.irc_network.specs.Lemmas.Emptied.{emptied_waits, emptied_ways}
@@ -22,7 +22,7 @@ use Rattle.irc_network.specs.Lemmas.RowsWritten.{is_written}
 use Rattle.irc_network.specs.Lemmas.NodesStay.{asked_stays}
 use Rattle.irc_daemons.specs.Alike.{client_bytes}
 use Rattle.irc_daemons.specs.Receiving.{bytes_received, has_come}
-use Rattle.irc_daemons.proofs.Given.{bytes_of_nodes, come_of_nodes, emptied_server, wire_behind}
+use Rattle.irc_daemons.proofs.Given.{bytes_of_nodes, come_of_nodes, emptied_server, pipe_behind}
 use Rattle.irc_daemons.proofs.Homes.{KeepsHomes, asked_keeps}
 use Rattle.irc_daemons.proofs.LackingWords.{AreAllEnds, AreOwn, LacksOne}
 use Rattle.irc_daemons.proofs.Single.{no_way_waits}
@@ -36,26 +36,26 @@ Lines = List (List ℕ)
 
 -- ---- what waits in a network is written
 
--- a network with what waited in another along its wires
-record IsOut (net : Network) (wires : Wires) (out : ByteNetwork) : Type 0 where
+-- a network with what waited in another along its pipes
+record IsOut (net : Network) (pipes : Pipes) (out : ByteNetwork) : Type 0 where
   pub servers : (x : ℕ) → server_at out.network x ≡ server_at net x
   pub ways : (x y : ℕ) → has_way out.network x y ≡ has_way net x y
-  pub wires_are : (x y : ℕ)
-      → wire_at out.wires x y ≡ all_written (waiting_at net x y) (wire_at wires x y)
+  pub pipes_are : (x y : ℕ)
+      → pipe_at out.pipes x y ≡ all_written (waiting_at net x y) (pipe_at pipes x y)
   pub names : out.network.names ≡ net.names
   pub homes : out.network.homes ≡ net.homes
   pub received : out.network.received ≡ net.received
   pub tidy : IsTidy out
 
-is_out : (item : Item) (progress : Progress Network) (wires : Wires)
-    → AreLean wires → length wires ≡ length progress.state.nodes
-    → IsOut progress.state wires (queues_written (item_kept item progress).state wires)
-is_out item progress wires lean long =
+is_out : (item : Item) (progress : Progress Network) (pipes : Pipes)
+    → AreLean pipes → length pipes ≡ length progress.state.nodes
+    → IsOut progress.state pipes (queues_written (item_kept item progress).state pipes)
+is_out item progress pipes lean long =
     let kept : Network = (item_kept item progress).state in
-    let is_so = is_written kept wires lean long in record {
+    let is_so = is_written kept pipes lean long in record {
       servers = λ x. emptied_server kept x;
       ways = λ x y. emptied_ways kept x y;
-      wires_are = λ x y. is_so.wires_are x y;
+      pipes_are = λ x y. is_so.pipes_are x y;
       names = refl;
       homes = refl;
       received = refl;
@@ -63,21 +63,21 @@ is_out item progress wires lean long =
     }
 
 -- one in which nothing waits is so
-out_at_once : (net : ByteNetwork) → IsTidy net → IsOut net.network net.wires net
+out_at_once : (net : ByteNetwork) → IsTidy net → IsOut net.network net.pipes net
 out_at_once net tidy = record {
   servers = λ x. refl;
   ways = λ x y. refl;
-  wires_are = λ x y. ap (λ ls. all_written ls (wire_at net.wires x y)) (sym (tidy.quiet x y));
+  pipes_are = λ x y. ap (λ ls. all_written ls (pipe_at net.pipes x y)) (sym (tidy.quiet x y));
   names = refl;
   homes = refl;
   received = refl;
   tidy = tidy;
 }
 
-both_written : (one other : Lines) (wire : LinkWire)
-    → all_written (one ++ other) wire ≡ wire_behind (with_ends other) (all_written one wire)
-both_written [] other wire = written_all other wire
-both_written (line ∷ one) other wire = both_written one other (written line wire)
+both_written : (one other : Lines) (pipe : LinkPipe)
+    → all_written (one ++ other) pipe ≡ pipe_behind (with_ends other) (all_written one pipe)
+both_written [] other pipe = written_all other pipe
+both_written (line ∷ one) other pipe = both_written one other (written line pipe)
 
 -- ---- a server is asked
 
@@ -121,33 +121,33 @@ is_asked place read_event view progress at =
         ((asked_replies place read_event view progress at).others x two)
 
 -- and once all is written, just that is more
-lacks_one : (place : ℕ) (read_event : ReadEvent) (view : View) (old new : Network) (wires : Wires)
-    (less more : ByteNetwork) → IsAsked place read_event view old new → IsOut old wires less
-    → IsOut new wires more → LacksOne place read_event less more
-lacks_one place read_event view old new wires less more asked first second = record {
+lacks_one : (place : ℕ) (read_event : ReadEvent) (view : View) (old new : Network) (pipes : Pipes)
+    (less more : ByteNetwork) → IsAsked place read_event view old new → IsOut old pipes less
+    → IsOut new pipes more → LacksOne place read_event less more
+lacks_one place read_event view old new pipes less more asked first second = record {
   state = view;
   here = first.servers place ∙ asked.here;
   here_then = second.servers place ∙ asked.here_then;
   others = λ x two. second.servers x ∙ asked.others x two ∙ sym (first.servers x);
   ways = λ x y. second.ways x y ∙ asked.ways x y ∙ sym (first.ways x y);
-  wires_there = λ x y two.
-      second.wires_are x y ∙ ap (λ ls. all_written ls (wire_at wires x y))
-      (asked.waits_there x y two) ∙ sym (first.wires_are x y);
-  wires_here = λ y way.
-      second.wires_are place y
-      ∙ ap (λ ls. all_written ls (wire_at wires place y))
+  pipes_there = λ x y two.
+      second.pipes_are x y ∙ ap (λ ls. all_written ls (pipe_at pipes x y))
+      (asked.waits_there x y two) ∙ sym (first.pipes_are x y);
+  pipes_here = λ y way.
+      second.pipes_are place y
+      ∙ ap (λ ls. all_written ls (pipe_at pipes place y))
       (asked.waits_here y (sym (first.ways place y) ∙ way))
       ∙ both_written (waiting_at old place y) (bodies y (reply view read_event).out)
-      (wire_at wires place y)
-      ∙ ap (wire_behind (with_ends (bodies y (reply view read_event).out)))
-      (sym (first.wires_are place y));
+      (pipe_at pipes place y)
+      ∙ ap (pipe_behind (with_ends (bodies y (reply view read_event).out)))
+      (sym (first.pipes_are place y));
   no_way = λ y none.
       let none_before : has_way old place y ≡ false = sym (first.ways place y) ∙ none in
-      second.wires_are place y
-      ∙ ap (λ ls. all_written ls (wire_at wires place y))
+      second.pipes_are place y
+      ∙ ap (λ ls. all_written ls (pipe_at pipes place y))
       (no_way_waits new place y (asked.ways place y ∙ none_before)
       ∙ sym (no_way_waits old place y none_before))
-      ∙ sym (first.wires_are place y);
+      ∙ sym (first.pipes_are place y);
   names = second.names ∙ asked.keeps.names ∙ sym first.names;
   homes = second.homes ∙ asked.keeps.homes ∙ sym first.homes;
   come = λ client.
@@ -253,11 +253,11 @@ pub record AreHalves (n f : ℕ) (on off : ReadEvent)
 -- only the one of n was asked, only that of f, or both
 abbrev pub one_asked : Item → ℕ → ReadEvent → ByteNetwork → ByteNetwork
 one_asked item place read_event base = queues_written
-    (item_kept item (node_asked place read_event (begun base.network))).state base.wires
+    (item_kept item (node_asked place read_event (begun base.network))).state base.pipes
 
 abbrev pub both_asked : Item → ℕ → ℕ → ReadEvent → ReadEvent → ByteNetwork → ByteNetwork
 both_asked item n f on off base = queues_written
-    (item_kept item (node_asked f off (node_asked n on (begun base.network)))).state base.wires
+    (item_kept item (node_asked f off (node_asked n on (begun base.network)))).state base.pipes
 
 module _ (own_law : ServedGoesToItsOwn) (item : Item) (n f : ℕ) (on off : ReadEvent)
     (base : ByteNetwork) (tidy : IsTidy base) (vn vf : View)
@@ -283,17 +283,17 @@ module _ (own_law : ServedGoesToItsOwn) (item : Item) (n f : ℕ) (on off : Read
     far_after =
         is_asked f off vf near_progress (near_asked.others f (nat_eq-turned f n ∙ two) ∙ far_there)
 
-    near_out : IsOut near_progress.state base.wires (one_asked item n on base)
-    near_out = is_out item near_progress base.wires tidy.lean
+    near_out : IsOut near_progress.state base.pipes (one_asked item n on base)
+    near_out = is_out item near_progress base.pipes tidy.lean
         (tidy.rows ∙ sym (asked_stays n on (begun base.network)))
 
-    far_out : IsOut far_progress.state base.wires (one_asked item f off base)
-    far_out = is_out item far_progress base.wires tidy.lean
+    far_out : IsOut far_progress.state base.pipes (one_asked item f off base)
+    far_out = is_out item far_progress base.pipes tidy.lean
         (tidy.rows ∙ sym (asked_stays f off (begun base.network)))
 
-    last_out : IsOut last_progress.state base.wires (both_asked item n f on off base)
+    last_out : IsOut last_progress.state base.pipes (both_asked item n f on off base)
     last_out =
-        is_out item last_progress base.wires tidy.lean (tidy.rows
+        is_out item last_progress base.pipes tidy.lean (tidy.rows
         ∙ sym (asked_stays f off near_progress ∙ asked_stays n on (begun base.network)))
 
     -- a client is of one of them at most
@@ -334,7 +334,7 @@ module _ (own_law : ServedGoesToItsOwn) (item : Item) (n f : ℕ) (on off : Read
           (one_asked item f off base) (both_asked item n f on off base)
       half_lacks = record {
         near_last =
-            lacks_one n on vn far_progress.state last_progress.state base.wires
+            lacks_one n on vn far_progress.state last_progress.state base.pipes
             (one_asked item f off base)
             (both_asked item n f on off base)
             (asked_last n f on off vn vf base.network near_progress.state last_progress.state
@@ -342,14 +342,14 @@ module _ (own_law : ServedGoesToItsOwn) (item : Item) (n f : ℕ) (on off : Read
             two near_asked far_after far_asked either_first)
             far_out last_out;
         far_last =
-            lacks_one f off vf near_progress.state last_progress.state base.wires
+            lacks_one f off vf near_progress.state last_progress.state base.pipes
             (one_asked item n on base)
             (both_asked item n f on off base)
             far_after near_out last_out;
         near_alone =
-            lacks_one n on vn base.network near_progress.state base.wires base
+            lacks_one n on vn base.network near_progress.state base.pipes base
             (one_asked item n on base) near_asked (out_at_once base tidy) near_out;
         far_alone =
-            lacks_one f off vf base.network far_progress.state base.wires base
+            lacks_one f off vf base.network far_progress.state base.pipes base
             (one_asked item f off base) far_asked (out_at_once base tidy) far_out;
       }

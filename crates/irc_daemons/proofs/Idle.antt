@@ -321,10 +321,10 @@ module _ {W : Type 0} (is_after : W → List Call → Type 0) (pieces : PiecesCo
         (λ q there.
         ap (λ (m : Moment W). open_kind_at (m.connections q)) nobody_new.as_it_was
         ∙ same.clients_open place step.engine step.at own.state q own_start there)
-        (λ x apart. same.as_bytes.servers x) same.as_bytes.ways (λ y. same.as_bytes.wires place y)
-        (λ x y apart there. same.as_bytes.wires x y)
+        (λ x apart. same.as_bytes.servers x) same.as_bytes.ways (λ y. same.as_bytes.pipes place y)
+        (λ x y apart there. same.as_bytes.pipes x y)
         (λ x apart.
-        same.as_bytes.wires x place
+        same.as_bytes.pipes x place
         ∙ incoming_stays is_after pieces names place old new step not_itself same.clients_open
         here.of.in_order here.of.framers joined_now ends_begin unread x apart)
         once (λ x client apart. seat_is x client)

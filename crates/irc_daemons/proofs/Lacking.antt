@@ -26,14 +26,14 @@ use Rattle.irc_network.specs.Node.{Served, reply}
 use Rattle.irc_stage.specs.View.{View}
 use Rattle.irc_world.specs.World.{home_in}
 use Rattle.irc_network.specs.Network.{Network, begun, home_place, node_asked, server_place}
-use Rattle.irc_wires.specs.Wires.{LinkWire, Wires, advanced, lines_by, wire_at}
+use Rattle.irc_pipes.specs.Pipes.{LinkPipe, Pipes, advanced, lines_by, pipe_at}
 use Rattle.irc_network.specs.ByteNetwork.{ByteNetwork, bytes_come, completed_in}
-use Rattle.irc_network.specs.ByteNetwork.{queues_written, wires_come}
+use Rattle.irc_network.specs.ByteNetwork.{queues_written, pipes_come}
 use Rattle.irc_network.specs.Whole.{has_way}
 use Rattle.irc_daemons.specs.Alike.{client_bytes}
 use Rattle.irc_daemons.specs.Clients.{ClientsStay}
 use Rattle.irc_daemons.specs.Receiving.{bytes_received, has_come}
-use Rattle.irc_daemons.proofs.Given.{wire_behind}
+use Rattle.irc_daemons.proofs.Given.{pipe_behind}
 use Rattle.irc_daemons.proofs.GoesOn.{GoesOn, asked_goes_on, bytes_go_on, come_at, come_if}
 use Rattle.irc_daemons.proofs.LackingWords.{AreAllEnds, AreOwn, LacksOne}
 use Rattle.irc_daemons.proofs.OwnClients.{all_replies, all_to_own}
@@ -54,28 +54,28 @@ pub record ArePlacedAlike (less more : Network) : Type 0 where
   pub server_places : (name : Name) → server_place more name ≡ server_place less name
   pub home_places : (client : ℕ) → home_place more client ≡ home_place less client
 
--- ---- wires
+-- ---- pipes
 
--- on these wires bytes of the server at a place are behind what is on those, and else they carry
+-- on these pipes bytes of the server at a place are behind what is on those, and else they carry
 -- the same
-record AreBehind (net : Network) (place : ℕ) (outs : List Sent) (one other : Wires) : Type 0 where
-  there : (x y : ℕ) → nat_eq x place ≡ false → wire_at other x y ≡ wire_at one x y
+record AreBehind (net : Network) (place : ℕ) (outs : List Sent) (one other : Pipes) : Type 0 where
+  there : (x y : ℕ) → nat_eq x place ≡ false → pipe_at other x y ≡ pipe_at one x y
   here : (y : ℕ) → has_way net place y ≡ true
-      → wire_at other place y ≡ wire_behind (with_ends (bodies y outs)) (wire_at one place y)
-  no_way : (y : ℕ) → has_way net place y ≡ false → wire_at other place y ≡ wire_at one place y
+      → pipe_at other place y ≡ pipe_behind (with_ends (bodies y outs)) (pipe_at one place y)
+  no_way : (y : ℕ) → has_way net place y ≡ false → pipe_at other place y ≡ pipe_at one place y
 
 -- bytes that come are not those behind
-front_advances : (count : ℕ) (wire : LinkWire) (bytes : List ℕ) → count ≤ length wire.bytes
-    → advanced count (wire_behind bytes wire) ≡ wire_behind bytes (advanced count wire)
-front_advances count wire bytes enough = λ i. record {
-  begun = begun_behind wire.begun (take-append-le count wire.bytes bytes enough i);
-  bytes = drop-append-le count wire.bytes bytes enough i;
+front_advances : (count : ℕ) (pipe : LinkPipe) (bytes : List ℕ) → count ≤ length pipe.bytes
+    → advanced count (pipe_behind bytes pipe) ≡ pipe_behind bytes (advanced count pipe)
+front_advances count pipe bytes enough = λ i. record {
+  begun = begun_behind pipe.begun (take-append-le count pipe.bytes bytes enough i);
+  bytes = drop-append-le count pipe.bytes bytes enough i;
 }
 
-front_completes : (count : ℕ) (wire : LinkWire) (bytes : List ℕ) → count ≤ length wire.bytes
-    → lines_by count (wire_behind bytes wire) ≡ lines_by count wire
-front_completes count wire bytes enough =
-    ap (completed wire.begun) (take-append-le count wire.bytes bytes enough)
+front_completes : (count : ℕ) (pipe : LinkPipe) (bytes : List ℕ) → count ≤ length pipe.bytes
+    → lines_by count (pipe_behind bytes pipe) ≡ lines_by count pipe
+front_completes count pipe bytes enough =
+    ap (completed pipe.begun) (take-append-le count pipe.bytes bytes enough)
 
 both_are : (x from y to : ℕ) → (nat_eq x from && nat_eq y to) ≡ true → (x ≡ from) × (y ≡ to)
 both_are x from y to is = by (nat_eq x from) refl is
@@ -86,7 +86,7 @@ both_are x from y to is = by (nat_eq x from) refl is
 
 module _ (place : ℕ) (read_event : ReadEvent) (less more : ByteNetwork)
     (lacks : LacksOne place read_event less more) (from to count : ℕ)
-    (enough : count ≤ length (wire_at less.wires from to).bytes)
+    (enough : count ≤ length (pipe_at less.pipes from to).bytes)
   where
     abbrev asked : Served
     asked = reply lacks.state read_event
@@ -95,43 +95,43 @@ module _ (place : ℕ) (read_event : ReadEvent) (less more : ByteNetwork)
     same_lines = by (nat_eq from place) refl (has_way less.network place to) refl
       where
         by : (b : Bool) → nat_eq from place ≡ b → (c : Bool) → has_way less.network place to ≡ c
-            → lines_by count (wire_at more.wires from to) ≡ lines_by count
-            (wire_at less.wires from to)
-        by false two c way = ap (lines_by count) (lacks.wires_there from to two)
+            → lines_by count (pipe_at more.pipes from to) ≡ lines_by count
+            (pipe_at less.pipes from to)
+        by false two c way = ap (lines_by count) (lacks.pipes_there from to two)
         by true one false none =
-            ap (λ n. lines_by count (wire_at more.wires n to)) (eqb-true from place one)
+            ap (λ n. lines_by count (pipe_at more.pipes n to)) (eqb-true from place one)
             ∙ ap (lines_by count) (lacks.no_way to none)
-            ∙ ap (λ n. lines_by count (wire_at less.wires n to)) (sym (eqb-true from place one))
+            ∙ ap (λ n. lines_by count (pipe_at less.pipes n to)) (sym (eqb-true from place one))
         by true one true way =
-            ap (λ n. lines_by count (wire_at more.wires n to)) (eqb-true from place one)
-            ∙ ap (lines_by count) (lacks.wires_here to way)
-            ∙ ap (λ n. lines_by count (wire_behind (with_ends (bodies to asked.out))
-            (wire_at less.wires n to))) (sym (eqb-true from place one))
-            ∙ front_completes count (wire_at less.wires from to)
+            ap (λ n. lines_by count (pipe_at more.pipes n to)) (eqb-true from place one)
+            ∙ ap (lines_by count) (lacks.pipes_here to way)
+            ∙ ap (λ n. lines_by count (pipe_behind (with_ends (bodies to asked.out))
+            (pipe_at less.pipes n to))) (sym (eqb-true from place one))
+            ∙ front_completes count (pipe_at less.pipes from to)
             (with_ends (bodies to asked.out)) enough
 
     comes_behind : (y : ℕ) (bytes : List ℕ) (b : Bool) → (nat_eq place from && nat_eq y to) ≡ b
-        → come_if count b (wire_behind bytes (wire_at less.wires place y))
-        ≡ wire_behind bytes (come_if count b (wire_at less.wires place y))
+        → come_if count b (pipe_behind bytes (pipe_at less.pipes place y))
+        ≡ pipe_behind bytes (come_if count b (pipe_at less.pipes place y))
     comes_behind y bytes true is =
         let there = both_are place from y to is in
-        front_advances count (wire_at less.wires place y) bytes
-        (subst (λ (w : LinkWire). count ≤ length w.bytes)
-        (λ i. wire_at less.wires (sym there.0 i) (sym there.1 i)) enough)
+        front_advances count (pipe_at less.pipes place y) bytes
+        (subst (λ (w : LinkPipe). count ≤ length w.bytes)
+        (λ i. pipe_at less.pipes (sym there.0 i) (sym there.1 i)) enough)
     comes_behind y bytes false is = refl
 
-    still_behind : AreBehind less.network place asked.out (wires_come less from to count)
-        (wires_come more from to count)
+    still_behind : AreBehind less.network place asked.out (pipes_come less from to count)
+        (pipes_come more from to count)
     still_behind = record {
       there = λ x y two.
           come_at from to count more x y
-          ∙ ap (come_if count (nat_eq x from && nat_eq y to)) (lacks.wires_there x y two)
+          ∙ ap (come_if count (nat_eq x from && nat_eq y to)) (lacks.pipes_there x y two)
           ∙ sym (come_at from to count less x y);
       here = λ y way.
           come_at from to count more place y
-          ∙ ap (come_if count (nat_eq place from && nat_eq y to)) (lacks.wires_here y way)
+          ∙ ap (come_if count (nat_eq place from && nat_eq y to)) (lacks.pipes_here y way)
           ∙ comes_behind y (with_ends (bodies y asked.out)) (nat_eq place from && nat_eq y to) refl
-          ∙ ap (wire_behind (with_ends (bodies y asked.out)))
+          ∙ ap (pipe_behind (with_ends (bodies y asked.out)))
           (sym (come_at from to count less place y));
       no_way = λ y none.
           come_at from to count more place y
@@ -143,7 +143,7 @@ module _ (place : ℕ) (read_event : ReadEvent) (less more : ByteNetwork)
 
 module _ (place to : ℕ) (read_event : ReadEvent) (less more : ByteNetwork)
     (lacks : LacksOne place read_event less more)
-    (away : nat_eq to place ≡ false) (next : Served) (one other : Wires)
+    (away : nat_eq to place ≡ false) (next : Served) (one other : Pipes)
     (behind : AreBehind less.network place (reply lacks.state read_event).out one other)
     (less_then more_then : ByteNetwork)
     (goes_less : GoesOn to next one less less_then)
@@ -167,23 +167,23 @@ module _ (place to : ℕ) (read_event : ReadEvent) (less more : ByteNetwork)
     servers_then x two false there =
         goes_more.others x there ∙ lacks.others x two ∙ sym (goes_less.others x there)
 
-    wires_to : (y : ℕ) (b : Bool) → has_way less.network to y ≡ b
-        → wire_at more_then.wires to y ≡ wire_at less_then.wires to y
-    wires_to y true way =
-        goes_more.wires_here y (lacks.ways to y ∙ way)
-        ∙ ap (wire_behind (with_ends (bodies y next.out))) (behind.there to y away)
-        ∙ sym (goes_less.wires_here y way)
-    wires_to y false none = goes_more.no_way y (lacks.ways to y ∙ none) ∙ behind.there to y away
+    pipes_to : (y : ℕ) (b : Bool) → has_way less.network to y ≡ b
+        → pipe_at more_then.pipes to y ≡ pipe_at less_then.pipes to y
+    pipes_to y true way =
+        goes_more.pipes_here y (lacks.ways to y ∙ way)
+        ∙ ap (pipe_behind (with_ends (bodies y next.out))) (behind.there to y away)
+        ∙ sym (goes_less.pipes_here y way)
+    pipes_to y false none = goes_more.no_way y (lacks.ways to y ∙ none) ∙ behind.there to y away
         ∙ sym (goes_less.no_way y none)
 
-    wires_then : (x y : ℕ) → nat_eq x place ≡ false → (b : Bool) → nat_eq x to ≡ b
-        → wire_at more_then.wires x y ≡ wire_at less_then.wires x y
-    wires_then x y two true same =
-        ap (λ n. wire_at more_then.wires n y) (eqb-true x to same)
-        ∙ wires_to y (has_way less.network to y) refl
-        ∙ ap (λ n. wire_at less_then.wires n y) (sym (eqb-true x to same))
-    wires_then x y two false there = goes_more.wires_there x y there ∙ behind.there x y two
-        ∙ sym (goes_less.wires_there x y there)
+    pipes_then : (x y : ℕ) → nat_eq x place ≡ false → (b : Bool) → nat_eq x to ≡ b
+        → pipe_at more_then.pipes x y ≡ pipe_at less_then.pipes x y
+    pipes_then x y two true same =
+        ap (λ n. pipe_at more_then.pipes n y) (eqb-true x to same)
+        ∙ pipes_to y (has_way less.network to y) refl
+        ∙ ap (λ n. pipe_at less_then.pipes n y) (sym (eqb-true x to same))
+    pipes_then x y two false there = goes_more.pipes_there x y there ∙ behind.there x y two
+        ∙ sym (goes_less.pipes_there x y there)
 
     received_then : (client : ℕ) → has_come less.network client ≡ true
         → bytes_received more_then.network client ≡ bytes_received less_then.network client
@@ -205,13 +205,13 @@ module _ (place to : ℕ) (read_event : ReadEvent) (less more : ByteNetwork)
       here_then = goes_more.others place apart ∙ lacks.here_then;
       others = λ x two. servers_then x two (nat_eq x to) refl;
       ways = λ x y. goes_more.ways x y ∙ lacks.ways x y ∙ sym (goes_less.ways x y);
-      wires_there = λ x y two. wires_then x y two (nat_eq x to) refl;
-      wires_here = λ y way.
-          goes_more.wires_there place y apart ∙ behind.here y (sym (goes_less.ways place y) ∙ way)
-          ∙ ap (wire_behind (with_ends (bodies y out))) (sym (goes_less.wires_there place y apart));
+      pipes_there = λ x y two. pipes_then x y two (nat_eq x to) refl;
+      pipes_here = λ y way.
+          goes_more.pipes_there place y apart ∙ behind.here y (sym (goes_less.ways place y) ∙ way)
+          ∙ ap (pipe_behind (with_ends (bodies y out))) (sym (goes_less.pipes_there place y apart));
       no_way = λ y none.
-          goes_more.wires_there place y apart ∙ behind.no_way y
-          (sym (goes_less.ways place y) ∙ none) ∙ sym (goes_less.wires_there place y apart);
+          goes_more.pipes_there place y apart ∙ behind.no_way y
+          (sym (goes_less.ways place y) ∙ none) ∙ sym (goes_less.pipes_there place y apart);
       names = goes_more.keeps.names ∙ lacks.names ∙ sym goes_less.keeps.names;
       homes = goes_more.keeps.homes ∙ lacks.homes ∙ sym goes_less.keeps.homes;
       come = λ client. goes_more.gets.come client ∙ lacks.come client
@@ -230,7 +230,7 @@ module _ (own_law : ServedGoesToItsOwn) (stay : ClientsStay) (keeps : ServedKeep
       (away : nat_eq to place ≡ false) (own : AreOwn less.network) (ends : AreAllEnds less.network)
       (other : View)
       (at : server_at less.network to ≡ Some (Some other))
-      (enough : count ≤ length (wire_at less.wires from to).bytes)
+      (enough : count ≤ length (pipe_at less.pipes from to).bytes)
     where
       abbrev lines : List (List ℕ)
       lines = completed_in less from to count
@@ -263,11 +263,11 @@ module _ (own_law : ServedGoesToItsOwn) (stay : ClientsStay) (keeps : ServedKeep
           ∙ append-nil (client_bytes client (reply lacks.state read_event).out)
           ∙ ap (λ bs. bs ++ client_bytes client (reply lacks.state read_event).out) (sym none)
 
-      goes_more : GoesOn to next (wires_come more from to count) more
+      goes_more : GoesOn to next (pipes_come more from to count) more
           (bytes_come from to count (begun more)).state
       goes_more =
           subst
-          (λ ls. GoesOn to (all_replies from other ls) (wires_come more from to count) more
+          (λ ls. GoesOn to (all_replies from other ls) (pipes_come more from to count) more
           (bytes_come from to count (begun more)).state)
           (same_lines place read_event less more lacks from to count enough)
           (bytes_go_on from to count more other lacks.tidy_more (lacks.others to away ∙ at))
@@ -275,8 +275,8 @@ module _ (own_law : ServedGoesToItsOwn) (stay : ClientsStay) (keeps : ServedKeep
       pub lacks_still : LacksOne place read_event (bytes_come from to count (begun less)).state
           (bytes_come from to count (begun more)).state
       lacks_still =
-          lacks_then place to read_event less more lacks away next (wires_come less from to count)
-          (wires_come more from to count)
+          lacks_then place to read_event less more lacks away next (pipes_come less from to count)
+          (pipes_come more from to count)
           (still_behind place read_event less more lacks from to count enough)
           (bytes_come from to count (begun less)).state
           (bytes_come from to count (begun more)).state
@@ -288,17 +288,17 @@ module _ (own_law : ServedGoesToItsOwn) (stay : ClientsStay) (keeps : ServedKeep
 module _ (place : ℕ) (read_event : ReadEvent) (less more : ByteNetwork)
     (lacks : LacksOne place read_event less more) where
   abbrev asked_too : ByteNetwork
-  asked_too = queues_written (node_asked place read_event (begun less.network)).state less.wires
+  asked_too = queues_written (node_asked place read_event (begun less.network)).state less.pipes
 
-  goes : GoesOn place (reply lacks.state read_event) less.wires less asked_too
+  goes : GoesOn place (reply lacks.state read_event) less.pipes less asked_too
   goes = asked_goes_on place read_event lacks.state less lacks.tidy_less lacks.here
 
   pub lacks_nothing : IsSameAs
-      (queues_written (node_asked place read_event (begun less.network)).state less.wires) more
+      (queues_written (node_asked place read_event (begun less.network)).state less.pipes) more
   lacks_nothing = record {
     servers = λ x. same_server x (nat_eq x place) refl;
     ways = λ x y. lacks.ways x y ∙ sym (goes.ways x y);
-    wires = λ x y. same_wire x y (nat_eq x place) refl;
+    pipes = λ x y. same_pipe x y (nat_eq x place) refl;
     names = lacks.names ∙ sym goes.keeps.names;
     homes = lacks.homes ∙ sym goes.keeps.homes;
     come = λ client. lacks.come client ∙ sym (goes.gets.come client);
@@ -314,18 +314,18 @@ module _ (place : ℕ) (read_event : ReadEvent) (less more : ByteNetwork)
           ∙ ap (server_at asked_too.network) (sym (eqb-true x place same))
       same_server x false two = lacks.others x two ∙ sym (goes.others x two)
 
-      wire_here : (y : ℕ) (b : Bool) → has_way less.network place y ≡ b
-          → wire_at more.wires place y ≡ wire_at asked_too.wires place y
-      wire_here y true way = lacks.wires_here y way ∙ sym (goes.wires_here y way)
-      wire_here y false none = lacks.no_way y none ∙ sym (goes.no_way y none)
+      pipe_here : (y : ℕ) (b : Bool) → has_way less.network place y ≡ b
+          → pipe_at more.pipes place y ≡ pipe_at asked_too.pipes place y
+      pipe_here y true way = lacks.pipes_here y way ∙ sym (goes.pipes_here y way)
+      pipe_here y false none = lacks.no_way y none ∙ sym (goes.no_way y none)
 
-      same_wire : (x y : ℕ) (b : Bool) → nat_eq x place ≡ b
-          → wire_at more.wires x y ≡ wire_at asked_too.wires x y
-      same_wire x y true same =
-          ap (λ n. wire_at more.wires n y) (eqb-true x place same)
-          ∙ wire_here y (has_way less.network place y) refl
-          ∙ ap (λ n. wire_at asked_too.wires n y) (sym (eqb-true x place same))
-      same_wire x y false two = lacks.wires_there x y two ∙ sym (goes.wires_there x y two)
+      same_pipe : (x y : ℕ) (b : Bool) → nat_eq x place ≡ b
+          → pipe_at more.pipes x y ≡ pipe_at asked_too.pipes x y
+      same_pipe x y true same =
+          ap (λ n. pipe_at more.pipes n y) (eqb-true x place same)
+          ∙ pipe_here y (has_way less.network place y) refl
+          ∙ ap (λ n. pipe_at asked_too.pipes n y) (sym (eqb-true x place same))
+      same_pipe x y false two = lacks.pipes_there x y two ∙ sym (goes.pipes_there x y two)
 
       same_bytes : (client : ℕ) (b : Bool) → has_come less.network client ≡ b
           → bytes_received more.network client ≡ bytes_received asked_too.network client

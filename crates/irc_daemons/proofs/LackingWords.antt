@@ -7,12 +7,12 @@ use Rattle.irc_stage.specs.View.{View}
 use Rattle.irc_server.specs.Served.{ReadEvent}
 use Rattle.irc_network.specs.Node.{reply}
 use Rattle.irc_network.specs.Network.{Network}
-use Rattle.irc_wires.specs.Wires.{wire_at}
+use Rattle.irc_pipes.specs.Pipes.{pipe_at}
 use Rattle.irc_network.specs.ByteNetwork.{ByteNetwork}
 use Rattle.irc_network.specs.Whole.{IsTidy, has_way}
 use Rattle.irc_daemons.specs.Alike.{client_bytes}
 use Rattle.irc_daemons.specs.Receiving.{bytes_received, has_come}
-use Rattle.irc_daemons.proofs.Given.{wire_behind}
+use Rattle.irc_daemons.proofs.Given.{pipe_behind}
 use Rattle.irc_daemons.proofs.Sent.{server_at}
 use Rattle.irc_daemons.proofs.Written.{bodies, with_ends}
 
@@ -25,12 +25,12 @@ pub record LacksOne (place : ℕ) (read_event : ReadEvent) (less more : ByteNetw
   pub others : (x : ℕ) → nat_eq x place ≡ false
       → server_at more.network x ≡ server_at less.network x
   pub ways : (x y : ℕ) → has_way more.network x y ≡ has_way less.network x y
-  pub wires_there : (x y : ℕ) → nat_eq x place ≡ false
-      → wire_at more.wires x y ≡ wire_at less.wires x y
-  pub wires_here : (y : ℕ) → has_way less.network place y ≡ true → wire_at more.wires place y
-      ≡ wire_behind (with_ends (bodies y (reply state read_event).out)) (wire_at less.wires place y)
+  pub pipes_there : (x y : ℕ) → nat_eq x place ≡ false
+      → pipe_at more.pipes x y ≡ pipe_at less.pipes x y
+  pub pipes_here : (y : ℕ) → has_way less.network place y ≡ true → pipe_at more.pipes place y
+      ≡ pipe_behind (with_ends (bodies y (reply state read_event).out)) (pipe_at less.pipes place y)
   pub no_way : (y : ℕ) → has_way less.network place y ≡ false
-      → wire_at more.wires place y ≡ wire_at less.wires place y
+      → pipe_at more.pipes place y ≡ pipe_at less.pipes place y
   pub names : more.network.names ≡ less.network.names
   pub homes : more.network.homes ≡ less.network.homes
   pub come : (client : ℕ) → has_come more.network client ≡ has_come less.network client

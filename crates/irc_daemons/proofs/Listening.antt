@@ -23,7 +23,7 @@ use Rattle.irc_stage.specs.View.{View}
 use Rattle.irc_network.specs.Node.{Served, reply}
 use Rattle.irc_network.specs.Network.{Progress, Network, Node, heard, line_counted, node_at}
 use Rattle.irc_network.specs.Network.{waiting}
-use Rattle.irc_wires.specs.Wires.{wire_at}
+use Rattle.irc_pipes.specs.Pipes.{pipe_at}
 use Rattle.irc_network.specs.ByteNetwork.{ByteNetwork, all_heard, all_written, queues_written}
 use Rattle.irc_network.specs.ByteNetwork.{waiting_at}
 use Rattle.irc_network.specs.Loops.Writing.{IsWritten}
@@ -39,7 +39,7 @@ use Rattle.irc_daemons.specs.Clients.{ClientsStay}
 use Rattle.irc_daemons.specs.Items.{has_item, is_link_line}
 use Rattle.irc_daemons.specs.Receiving.{bytes_received, has_come}
 use Rattle.irc_daemons.proofs.Given.{Went, bytes_of_nodes, come_of_nodes, emptied_server}
-use Rattle.irc_daemons.proofs.Given.{same_answers, wire_behind}
+use Rattle.irc_daemons.proofs.Given.{same_answers, pipe_behind}
 use Rattle.irc_daemons.proofs.Heard.{answers_both, reply_ends}
 use Rattle.irc_daemons.proofs.Homes.{KeepsHomes, asked_keeps, keeps_both, keeps_same}
 use Rattle.irc_daemons.proofs.Single.{no_way_waits}
@@ -323,10 +323,10 @@ module _ (to : ℕ) (numbers : Numbers) (own last : View) (events : List Event) 
     (mid : ByteNetwork) (heard_net : Network) (tidy : IsTidy mid)
     (ways_are : (y : ℕ) → has_way mid.network to y ≡ is_some (numbers.link y))
     (listens : Listens to numbers own last events outs mid.network heard_net)
-    (is_so : IsWritten heard_net mid.wires (queues_written heard_net mid.wires))
+    (is_so : IsWritten heard_net mid.pipes (queues_written heard_net mid.pipes))
   where
     abbrev now : ByteNetwork
-    now = queues_written heard_net mid.wires
+    now = queues_written heard_net mid.pipes
 
     waits_there : (x y : ℕ) → nat_eq x to ≡ false → waiting_at heard_net x y ≡ []
     waits_there x y two = ap (λ o. option_map_or (λ (node : Node). waiting node y) o [])
@@ -353,17 +353,17 @@ module _ (to : ℕ) (numbers : Numbers) (own last : View) (events : List Event) 
       others = λ x two. emptied_server heard_net x
           ∙ ap (option_map (λ (s : Node). s.server)) (listens.others x two);
       ways = λ x y. emptied_ways heard_net x y ∙ ways_at x y (nat_eq x to) refl;
-      wires_there = λ x y two. is_so.wires_are x y
-          ∙ ap (λ ls. all_written ls (wire_at mid.wires x y)) (waits_there x y two);
+      pipes_there = λ x y two. is_so.pipes_are x y
+          ∙ ap (λ ls. all_written ls (pipe_at mid.pipes x y)) (waits_there x y two);
       no_way = λ y none.
-          is_so.wires_are to y
-          ∙ ap (λ ls. all_written ls (wire_at mid.wires to y))
+          is_so.pipes_are to y
+          ∙ ap (λ ls. all_written ls (pipe_at mid.pipes to y))
           (no_way_waits heard_net to y (listens.ways y ∙ ways_are y ∙ ap is_some none));
-      wires_here = λ y q link opened.
-          is_so.wires_are to y
-          ∙ ap (λ ls. all_written ls (wire_at mid.wires to y)) (waits_here y q link)
-          ∙ written_all (listens.lines y) (wire_at mid.wires to y)
-          ∙ ap (λ bs. wire_behind bs (wire_at mid.wires to y)) (listens.bytes y q link opened);
+      pipes_here = λ y q link opened.
+          is_so.pipes_are to y
+          ∙ ap (λ ls. all_written ls (pipe_at mid.pipes to y)) (waits_here y q link)
+          ∙ written_all (listens.lines y) (pipe_at mid.pipes to y)
+          ∙ ap (λ bs. pipe_behind bs (pipe_at mid.pipes to y)) (listens.bytes y q link opened);
       tidy = record { quiet = emptied_waits heard_net; rows = is_so.rows; lean = is_so.lean };
       keeps = record {
         names = listens.keeps.names;

@@ -2,7 +2,7 @@
 use Rattle.std.proofs.Common.{◌≡◌, ℕ, zero, suc, false, nat_eq, Some, List, [], ◌∷◌}
 use Rattle.std.proofs.Common.{◌++◌, refl}
 use Rattle.std.specs.List.{slice_get, slice_set, AllByRecursion}
-use Rattle.irc_wires.specs.Lemmas.PutWires.{one_before}
+use Rattle.irc_pipes.specs.Lemmas.PutPipes.{one_before}
 
 pub set_here : {A : Type 0} (xs : List A) (n : ℕ) (old new : A) → slice_get xs n ≡ Some old
     → slice_get (slice_set xs n new) n ≡ Some new

@@ -15,9 +15,9 @@ use Rattle.irc_stage.specs.View.{End, View}
 use Rattle.irc_server.specs.Configuring.{made_view}
 use Rattle.irc_server.specs.declared.config.Config.{Config}
 use Rattle.irc_network.specs.Network.{Node, node_at}
-use Rattle.irc_wires.specs.Wires.{LinkWire, new_wire, wire_at}
+use Rattle.irc_pipes.specs.Pipes.{LinkPipe, new_pipe, pipe_at}
 use Rattle.irc_network.specs.ByteNetwork.{ByteNetwork}
-use Rattle.irc_network.specs.Whole.{IsAsNew, NewIsWhole, has_way, no_wires}
+use Rattle.irc_network.specs.Whole.{IsAsNew, NewIsWhole, has_way, no_pipes}
 use Rattle.irc_items.specs.SetUp.{setting_at}
 use Rattle.irc_net.specs.Calls.{standing}
 use Rattle.irc_net.specs.Laws.{EveryRunIsKept}
@@ -30,11 +30,11 @@ use Rattle.irc_daemons.specs.AsBytes.{IsAsBytes, IsServerIf, IsServerOf, numbers
 use Rattle.irc_relay.specs.Relay.{IsFront}
 use Rattle.irc_daemons.specs.AsNetwork.{AreClientsOpen, IsAsNetwork}
 use Rattle.irc_daemons.specs.Daemons.{AreJoined, Daemons, IsToldOfLinks, connection_at, end_at}
-use Rattle.irc_daemons.specs.Daemons.{unsent, wire_between}
+use Rattle.irc_daemons.specs.Daemons.{unsent, pipe_between}
 use Rattle.irc_daemons.specs.NewDaemons.{AreNew, IsNewIf, IsNewOf, names_in, settings_in}
 use Rattle.irc_daemons.specs.Receiving.{bytes_received}
 use Rattle.irc_daemons.proofs.Going.{IsGoing}
-use Rattle.irc_daemons.proofs.Single.{has_server, have_views, same_wire}
+use Rattle.irc_daemons.proofs.Single.{has_server, have_views, same_pipe}
 use Rattle.irc_daemons.proofs.Told.{begun_or_none}
 
 -- ---- a new server
@@ -98,10 +98,10 @@ no_queues : (configs : List Config)
 no_queues [] = tt
 no_queues (config ∷ configs) = (refl, no_queues configs)
 
-no_wire : (servers from to : ℕ) → wire_at (replicate servers empty) from to ≡ new_wire
-no_wire zero from to = refl
-no_wire (suc servers) zero to = ap (λ o. unwrap_or o new_wire) (get-empty {X = LinkWire} nat_cmp to)
-no_wire (suc servers) (suc from) to = no_wire servers from to
+no_pipe : (servers from to : ℕ) → pipe_at (replicate servers empty) from to ≡ new_pipe
+no_pipe zero from to = refl
+no_pipe (suc servers) zero to = ap (λ o. unwrap_or o new_pipe) (get-empty {X = LinkPipe} nat_cmp to)
+no_pipe (suc servers) (suc from) to = no_pipe servers from to
 
 no_way : (configs : List Config) (from to : ℕ) → has_way (made_of configs) from to ≡ false
 no_way configs from to =
@@ -116,7 +116,7 @@ no_way configs from to =
 module _ {W : Type 0} (whole : NewIsWhole) (configs : List Config) (daemons : Daemons W)
     (new : AreNew configs daemons) where
   abbrev pub net : ByteNetwork
-  net = no_wires (made_of new.ordered)
+  net = no_pipes (made_of new.ordered)
 
   is_as_new : IsAsNew net
   is_as_new = whole (made_of new.ordered) (no_queues new.ordered)
@@ -137,9 +137,9 @@ module _ {W : Type 0} (whole : NewIsWhole) (configs : List Config) (daemons : Da
     one_seat = λ x client other conn is seat. cc (sym (new.no_seat x client) ∙ is);
   }
 
-  nothing_between : (from to : ℕ) → wire_between daemons from to ≡ new_wire
+  nothing_between : (from to : ℕ) → pipe_between daemons from to ≡ new_pipe
   nothing_between from to =
-      same_wire (begun_or_none (begun_at (end_at daemons to from))) (begun_or_none None)
+      same_pipe (begun_or_none (begun_at (end_at daemons to from))) (begun_or_none None)
       (daemons.transit from to ++ unsent (end_at daemons from to)) []
       (ap (λ o. begun_or_none (begun_at o)) (no_end_at to from))
       (ap (λ bs. bs ++ unsent (end_at daemons from to)) (new.nothing_moves from to)
@@ -154,7 +154,7 @@ module _ {W : Type 0} (whole : NewIsWhole) (configs : List Config) (daemons : Da
         (λ client. new.no_seat place client) (slice_get new.ordered place)
         (slice_get daemons.engines place) (new.engines place));
     ways = λ from to. no_way new.ordered from to ∙ sym (new.no_way from to);
-    wires = λ from to. no_wire (length (made_of new.ordered).nodes) from to
+    pipes = λ from to. no_pipe (length (made_of new.ordered).nodes) from to
         ∙ sym (nothing_between from to);
     tidy = is_as_new.whole.tidy;
   }

@@ -16,7 +16,7 @@ use Rattle.irc_server.specs.declared.event.Event.{Event}
 use Rattle.irc_world.specs.Stepping.{Item}
 use Rattle.irc_world.specs.World.{Setting}
 use Rattle.irc_network.specs.Network.{begun, node_at}
-use Rattle.irc_wires.specs.Wires.{LinkWire, new_wire, wire_at}
+use Rattle.irc_pipes.specs.Pipes.{LinkPipe, new_pipe, pipe_at}
 use Rattle.irc_network.specs.ByteNetwork.{ByteNetwork, bytes_come}
 use Rattle.irc_net.specs.Laws.{SettingsStay, StaysKept}
 use Rattle.irc_daemons.specs.Alike.{ServedAlike}
@@ -51,7 +51,7 @@ pub data IsStillFor (owing : Owing) (less : ByteNetwork) : Type 0 where
   side_is_still : (side : ℕ → Bool) → owing.tidings ≡ is_lost → side owing.place ≡ false
       → IsAside side less → IsStillFor owing less
   all_is_still : (called : Option Name) → owing.tidings ≡ is_up called → ((x y : ℕ)
-      → (x ≡ owing.other → nat_eq y owing.place ≡ false) → wire_at less.wires x y ≡ new_wire)
+      → (x ≡ owing.other → nat_eq y owing.place ≡ false) → pipe_at less.pipes x y ≡ new_pipe)
       → IsStillFor owing less
 
 -- ---- daemons of which one is to be told
@@ -91,13 +91,13 @@ module _ {W : Type 0} (is_after : W → List Call → Type 0) (pieces : PiecesCo
     (names : List Name) (place : ℕ) (old new : Daemons W)
     (net : ByteNetwork) (step : Steps is_after place old new) (same : IsAsNetwork names old net)
   where
-    still_taken : (y q : ℕ) → old.ends place y ≡ Some q → wire_at net.wires y place ≡ new_wire
+    still_taken : (y q : ℕ) → old.ends place y ≡ Some q → pipe_at net.pipes y place ≡ new_pipe
         → taken q step.did.calls ≡ []
     still_taken y q link still =
         front_none (taken_at (Some q) step.did.calls) (new.transit y place)
         (ap (λ o. taken_at o step.did.calls ++ new.transit y place) (sym link) ∙ sym (step.reads y)
         ∙ front_none (old.transit y place) (unsent (end_at old y place))
-        (ap (λ (w : LinkWire). w.bytes) (sym (same.as_bytes.wires y place) ∙ still)))
+        (ap (λ (w : LinkPipe). w.bytes) (sym (same.as_bytes.pipes y place) ∙ still)))
 
     here : HasServer (numbers_at old place) step.engine (node_at net.network place)
     here =
@@ -166,7 +166,7 @@ module _ {W : Type 0} (is_after : W → List Call → Type 0) (pieces : PiecesCo
         half.same once) half.placed half.lacks half.still
 
     still_idle : ((y q : ℕ) → old.ends place y ≡ Some q
-        → wire_at half.less.wires y place ≡ new_wire) → IsHalf settings names items owing new
+        → pipe_at half.less.pipes y place ≡ new_pipe) → IsHalf settings names items owing new
     still_idle still =
         idle (λ y q link. still_taken is_after pieces names place old new half.less step half.same y
         q link (still y q link))
@@ -184,7 +184,7 @@ module _ {W : Type 0} (is_after : W → List Call → Type 0) (pieces : PiecesCo
         let less : ByteNetwork = (bytes_come from place count (begun half.less)).state in
         let more : ByteNetwork = (bytes_come from place count (begun half.more)).state in
         let enough = front_enough came.front came.rest
-        (wire_at half.less.wires from place).bytes came.bytes_are in
+        (pipe_at half.less.pipes from place).bytes came.bytes_are in
         let lacks = lacks_still own_law stay keeps owing.place from place count
         (read_event_by owing.tidings owing.other) half.less half.more half.lacks away
         (are_own names old half.less half.same once)

@@ -61,7 +61,7 @@ serves_there net kept x name is =
     record {
       state = view_at (net_in_lines net) name;
       at =
-          sym (server_behind (lines_ahead net.wires) net.network.nodes x)
+          sym (server_behind (lines_ahead net.pipes) net.network.nodes x)
           ∙ ap (server_at (net_in_lines net)) (sym place)
           ∙ ap (option_map (λ (s : Node). s.server)) here.is_node
           ∙ ap Some here.is_view;

@@ -7,7 +7,7 @@ use Rattle.std.proofs.lemmas.Grind.{flat_map-append}
 use Rattle.std.specs.List.{flat_map, slice_get, slice_set}
 use Rattle.std.specs.Option.{option_map_or}
 use Rattle.std.proofs.Math.Nat.{suc_inj}
-use Rattle.irc_wires.specs.Lemmas.PutWires.{one_before}
+use Rattle.irc_pipes.specs.Lemmas.PutPipes.{one_before}
 use Rattle.irc_names.specs.Lemmas.PlainFacts.{nat_eq-turned}
 use Rattle.irc_batch.specs.Batches.{Sent, end_of, end_of_link, line_on, line_to}
 use Rattle.irc_line.specs.Reading.{read_of}

@@ -16,9 +16,9 @@ use Rattle.irc_network.specs.Network.{LinkPlaces, Network, Node, begun, given, i
 use Rattle.irc_network.specs.Network.{link_places, server_place, servers_linked, servers_parted}
 use Rattle.irc_network.specs.Network.{node_asked, node_at, node_changed_at, waiting, with_node}
 use Rattle.irc_network.specs.Network.{with_way, without_way}
-use Rattle.irc_wires.specs.Wires.{AreLean, LinkWire, Wires, new_wire, wire_at, wire_in}
-use Rattle.irc_wires.specs.Wires.{without_wire}
-use Rattle.irc_wires.specs.Lemmas.PutWires.{get-without}
+use Rattle.irc_pipes.specs.Pipes.{AreLean, LinkPipe, Pipes, new_pipe, pipe_at, pipe_in}
+use Rattle.irc_pipes.specs.Pipes.{without_pipe}
+use Rattle.irc_pipes.specs.Lemmas.PutPipes.{get-without}
 use Rattle.irc_network.specs.ByteNetwork.{ByteNetwork, item_given, lost_along, queues_written}
 use Rattle.irc_network.specs.ByteNetwork.{waiting_at}
 use Rattle.irc_network.specs.Whole.{IsTidy, has_way}
@@ -39,7 +39,7 @@ abbrev pub linked_net : Name → Name → ℕ → ℕ → ByteNetwork → ByteNe
 linked_net near far n f net = record {
   network = node_changed_at f (with_way n) (node_changed_at n (with_way f)
       (record net.network { links = record { near = near; far = far } ∷ net.network.links }));
-  wires = net.wires;
+  pipes = net.pipes;
 }
 
 -- the way is gone, with what was on it
@@ -47,7 +47,7 @@ abbrev pub parted_net : Name → Name → ℕ → ℕ → ByteNetwork → ByteNe
 parted_net near far n f net = record {
   network = node_changed_at f (without_way n) (node_changed_at n (without_way f)
       (record net.network { links = links_without net.network.links near far }));
-  wires = without_wire f n (without_wire n f net.wires);
+  pipes = without_pipe f n (without_pipe n f net.pipes);
 }
 
 abbrev both_places : ℕ → ℕ → LinkPlaces
@@ -65,12 +65,12 @@ pub given_link : (net : ByteNetwork) (near far : Name) (n f : ℕ) → server_pl
     ≡ queues_written
     (item_kept (link near far) (node_asked f (link_up n None) (node_asked n (link_up f (Some far))
     (begun (linked_net near far n f net).network)))).state
-    (linked_net near far n f net).wires
+    (linked_net near far n f net).pipes
 unfolding item_given given
 given_link net near far n f near_at far_at =
     ap
     (λ o. queues_written (item_kept (link near far) (option_map_or
-    (servers_linked near far net.network) o (begun net.network))).state net.wires)
+    (servers_linked near far net.network) o (begun net.network))).state net.pipes)
     (places_are net.network near far n f near_at far_at)
 
 pub given_cut : (net : ByteNetwork) (near far : Name) (n f : ℕ) → server_place net.network near
@@ -78,13 +78,13 @@ pub given_cut : (net : ByteNetwork) (near far : Name) (n f : ℕ) → server_pla
     ≡ queues_written
     (item_kept (cut near far) (node_asked f (link_down n)
     (node_asked n (link_down f) (begun (parted_net near far n f net).network)))).state
-    (parted_net near far n f net).wires
+    (parted_net near far n f net).pipes
 unfolding item_given given
 given_cut net near far n f near_at far_at =
     ap
     (λ o. queues_written (item_kept (cut near far)
     (option_map_or (servers_parted near far net.network) o (begun net.network))).state
-    (lost_along o net.wires))
+    (lost_along o net.pipes))
     (places_are net.network near far n f near_at far_at)
 
 -- ---- one end of a way
@@ -219,42 +219,42 @@ module _ (from to : ℕ) (is : Bool) (change : Node → Node) (changes : Changes
       by None at none = cc none
       by (Some node) at some = node_now node at
 
--- ---- wires that were taken away
+-- ---- pipes that were taken away
 
-abbrev WireRow : Type 0
-WireRow = FinMap nat_cmp LinkWire
+abbrev PipeRow : Type 0
+PipeRow = FinMap nat_cmp LinkPipe
 
-row_lost : (from to : ℕ) (wires : Wires) → length (without_wire from to wires) ≡ length wires
-row_lost from to wires = by (slice_get wires from)
+row_lost : (from to : ℕ) (pipes : Pipes) → length (without_pipe from to pipes) ≡ length pipes
+row_lost from to pipes = by (slice_get pipes from)
   where
-    by : (o : Option WireRow) → length
-        (option_map_or (λ row. slice_set wires from (remove row to)) o wires) ≡ length wires
+    by : (o : Option PipeRow) → length
+        (option_map_or (λ row. slice_set pipes from (remove row to)) o pipes) ≡ length pipes
     by None = refl
-    by (Some row) = length_set wires from (remove row to)
+    by (Some row) = length_set pipes from (remove row to)
 
-still_lost : (from to : ℕ) (wires : Wires) → ((x y : ℕ) → wire_at wires x y ≡ new_wire) → (x y : ℕ)
-    → wire_at (without_wire from to wires) x y ≡ new_wire
-still_lost from to wires all x y = by (slice_get wires from) refl
+still_lost : (from to : ℕ) (pipes : Pipes) → ((x y : ℕ) → pipe_at pipes x y ≡ new_pipe) → (x y : ℕ)
+    → pipe_at (without_pipe from to pipes) x y ≡ new_pipe
+still_lost from to pipes all x y = by (slice_get pipes from) refl
   where
-    by_to : (row : WireRow) (b : Bool) → wire_in y row ≡ new_wire
-        → unwrap_or (cond b None (get row y)) new_wire ≡ new_wire
+    by_to : (row : PipeRow) (b : Bool) → pipe_in y row ≡ new_pipe
+        → unwrap_or (cond b None (get row y)) new_pipe ≡ new_pipe
     by_to row true still = refl
     by_to row false still = still
 
-    by_from : (row : WireRow) → slice_get wires from ≡ Some row → (b : Bool) → nat_eq x from ≡ b
-        → wire_at (slice_set wires from (remove row to)) x y ≡ new_wire
+    by_from : (row : PipeRow) → slice_get pipes from ≡ Some row → (b : Bool) → nat_eq x from ≡ b
+        → pipe_at (slice_set pipes from (remove row to)) x y ≡ new_pipe
     by_from row at true one =
-        ap (λ v. wire_at (slice_set wires from (remove row to)) v y) (eqb-true x from one)
-        ∙ ap (λ o. option_map_or (wire_in y) o new_wire)
-        (set_here wires from row (remove row to) at)
-        ∙ ap (λ o. unwrap_or o new_wire) (get-without row to y)
-        ∙ by_to row (nat_eq y to) (sym (ap (λ o. option_map_or (wire_in y) o new_wire) at)
+        ap (λ v. pipe_at (slice_set pipes from (remove row to)) v y) (eqb-true x from one)
+        ∙ ap (λ o. option_map_or (pipe_in y) o new_pipe)
+        (set_here pipes from row (remove row to) at)
+        ∙ ap (λ o. unwrap_or o new_pipe) (get-without row to y)
+        ∙ by_to row (nat_eq y to) (sym (ap (λ o. option_map_or (pipe_in y) o new_pipe) at)
         ∙ all from y)
-    by_from row at false two = ap (λ o. option_map_or (wire_in y) o new_wire)
-        (set_elsewhere wires from x (remove row to) two) ∙ all x y
+    by_from row at false two = ap (λ o. option_map_or (pipe_in y) o new_pipe)
+        (set_elsewhere pipes from x (remove row to) two) ∙ all x y
 
-    by : (o : Option WireRow) → slice_get wires from ≡ o → wire_at
-        (option_map_or (λ row. slice_set wires from (remove row to)) o wires) x y ≡ new_wire
+    by : (o : Option PipeRow) → slice_get pipes from ≡ o → pipe_at
+        (option_map_or (λ row. slice_set pipes from (remove row to)) o pipes) x y ≡ new_pipe
     by None at = all x y
     by (Some row) at = by_from row at (nat_eq x from) refl
 
@@ -265,7 +265,7 @@ pub record IsRelinked (n f : ℕ) (is : Bool) (old new : ByteNetwork) : Type 0 w
   pub servers : (x : ℕ) → server_at new.network x ≡ server_at old.network x
   pub ways : (x y : ℕ) → has_way new.network x y ≡ (if (nat_eq x n && nat_eq y f)
       || (nat_eq x f && nat_eq y n) then is else has_way old.network x y)
-  pub wires : (x y : ℕ) → wire_at new.wires x y ≡ wire_at old.wires x y
+  pub pipes : (x y : ℕ) → pipe_at new.pipes x y ≡ pipe_at old.pipes x y
   pub names : new.network.names ≡ old.network.names
   pub homes : new.network.homes ≡ old.network.homes
   pub received : new.network.received ≡ old.network.received
@@ -293,15 +293,15 @@ of_links from to is net new links changed = record {
 
 both_changed : (n f : ℕ) (is : Bool) (old new : ByteNetwork) (mid : Network) → IsTidy old
     → IsWayChanged n f is old.network mid → IsWayChanged f n is mid new.network
-    → ((x y : ℕ) → wire_at new.wires x y ≡ wire_at old.wires x y)
-    → length new.wires ≡ length old.wires → AreLean new.wires → IsRelinked n f is old new
-both_changed n f is old new mid tidy first second wires rows lean = record {
+    → ((x y : ℕ) → pipe_at new.pipes x y ≡ pipe_at old.pipes x y)
+    → length new.pipes ≡ length old.pipes → AreLean new.pipes → IsRelinked n f is old new
+both_changed n f is old new mid tidy first second pipes rows lean = record {
   servers = λ x. second.servers x ∙ first.servers x;
   ways = λ x y.
       second.ways x y ∙ ap (λ b. if nat_eq x f && nat_eq y n then is else b) (first.ways x y)
       ∙ either_end (nat_eq x n && nat_eq y f) (nat_eq x f && nat_eq y n) is
       (has_way old.network x y);
-  wires = wires;
+  pipes = pipes;
   names = second.names ∙ first.names;
   homes = second.homes ∙ first.homes;
   received = second.received ∙ first.received;
@@ -339,10 +339,10 @@ module _ (near far : Name) (n f : ℕ) (net : ByteNetwork) (tidy : IsTidy net) (
         (first.servers f ∙ far_there) in
         both_changed n f false net (parted_net near far n f net) mid tidy
         (of_links n f false net.network mid links first) second
-        (λ x y. still_lost f n (without_wire n f net.wires) (still_lost n f net.wires still) x y
+        (λ x y. still_lost f n (without_pipe n f net.pipes) (still_lost n f net.pipes still) x y
         ∙ sym (still x y))
-        (row_lost f n (without_wire n f net.wires) ∙ row_lost n f net.wires)
-        (lean_along (Some (both_places n f)) net.wires tidy.lean)
+        (row_lost f n (without_pipe n f net.pipes) ∙ row_lost n f net.pipes)
+        (lean_along (Some (both_places n f)) net.pipes tidy.lean)
 
 -- what is so of its servers is so then, too
 pub own_then : (old new : Network) → ((x : ℕ) → server_at new x ≡ server_at old x) → AreOwn old

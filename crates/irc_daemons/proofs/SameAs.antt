@@ -8,7 +8,7 @@ use Rattle.irc_relay.specs.Links.{Name}
 use Rattle.irc_relay.specs.Relay.{IsFront}
 use Rattle.irc_world.specs.World.{home_in}
 use Rattle.irc_network.specs.Network.{Network, Node, node_at}
-use Rattle.irc_wires.specs.Wires.{wire_at}
+use Rattle.irc_pipes.specs.Pipes.{pipe_at}
 use Rattle.irc_network.specs.ByteNetwork.{ByteNetwork}
 use Rattle.irc_network.specs.Whole.{IsTidy, has_way}
 use Rattle.irc_engine.specs.EngineView.{EngineView}
@@ -23,7 +23,7 @@ use Rattle.irc_daemons.proofs.Sent.{Lines, server_at}
 pub record IsSameAs (one other : ByteNetwork) : Type 0 where
   pub servers : (x : ℕ) → server_at other.network x ≡ server_at one.network x
   pub ways : (x y : ℕ) → has_way other.network x y ≡ has_way one.network x y
-  pub wires : (x y : ℕ) → wire_at other.wires x y ≡ wire_at one.wires x y
+  pub pipes : (x y : ℕ) → pipe_at other.pipes x y ≡ pipe_at one.pipes x y
   pub names : other.network.names ≡ one.network.names
   pub homes : other.network.homes ≡ one.network.homes
   pub come : (client : ℕ) → has_come other.network client ≡ has_come one.network client
@@ -71,7 +71,7 @@ module _ {W : Type 0} (names : List Name) (daemons : Daemons W) (one other : Byt
           (node_at one.network place) (node_at other.network place)
           (same.servers place) (is.as_bytes.servers place);
       ways = λ from to. same.ways from to ∙ is.as_bytes.ways from to;
-      wires = λ from to. same.wires from to ∙ is.as_bytes.wires from to;
+      pipes = λ from to. same.pipes from to ∙ is.as_bytes.pipes from to;
       tidy = same.tidy;
     }
 

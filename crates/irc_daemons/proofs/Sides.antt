@@ -19,11 +19,11 @@ use Rattle.irc_relay.specs.Links.{linked as are_linked}
 use Rattle.irc_relay.specs.Lemmas.TellingNames.{same_unless, same_when}
 use Rattle.irc_world.specs.Laws.{WorldIsSound}
 use Rattle.irc_network.specs.Network.{Node, server_place, node_at}
-use Rattle.irc_wires.specs.Wires.{LinkWire, Wires, are_still, are_still_in, is_still, new_wire}
-use Rattle.irc_wires.specs.Wires.{wire_at}
-use Rattle.irc_wires.specs.Wires.{wire_in}
-use Rattle.irc_wires.specs.Lemmas.StillWires.{still_is_new}
-use Rattle.irc_wires.specs.Lemmas.StillWires.{one_of as one_of_all}
+use Rattle.irc_pipes.specs.Pipes.{LinkPipe, Pipes, are_still, are_still_in, is_still, new_pipe}
+use Rattle.irc_pipes.specs.Pipes.{pipe_at}
+use Rattle.irc_pipes.specs.Pipes.{pipe_in}
+use Rattle.irc_pipes.specs.Lemmas.StillPipes.{still_is_new}
+use Rattle.irc_pipes.specs.Lemmas.StillPipes.{one_of as one_of_all}
 use Rattle.irc_network.specs.ByteNetwork.{ByteNetwork, is_byte_rest}
 use Rattle.irc_network.specs.Whole.{RestAsLines, has_way}
 use Rattle.irc_items.specs.SetUp.{settings_of}
@@ -44,27 +44,27 @@ pub record AreSides (n f : ℕ) (is_way : ℕ → ℕ → Bool) : Type 0 where
 
 -- ---- at rest all is still
 
-still_in : (row : FinMap nat_cmp LinkWire) → are_still_in row ≡ true → (y : ℕ)
-    → wire_in y row ≡ new_wire
+still_in : (row : FinMap nat_cmp LinkPipe) → are_still_in row ≡ true → (y : ℕ)
+    → pipe_in y row ≡ new_pipe
 still_in row all y = by (get row y) refl
   where
-    by : (o : Option LinkWire) → get row y ≡ o → unwrap_or o new_wire ≡ new_wire
+    by : (o : Option LinkPipe) → get row y ≡ o → unwrap_or o new_pipe ≡ new_pipe
     by None is = refl
-    by (Some wire) is =
-        ap (λ o. unwrap_or o new_wire) (sym is)
-        ∙ still_is_new (wire_in y row)
-        (one_of_all (λ number. is_still (wire_in number row)) y (keys row) all
+    by (Some pipe) is =
+        ap (λ o. unwrap_or o new_pipe) (sym is)
+        ∙ still_is_new (pipe_in y row)
+        (one_of_all (λ number. is_still (pipe_in number row)) y (keys row) all
         (sym (contains_key-keys row y) ∙ ap is_some is))
 
-still_rows : (wires : Wires) → are_still wires ≡ true → (x y : ℕ) → wire_at wires x y ≡ new_wire
+still_rows : (pipes : Pipes) → are_still pipes ≡ true → (x y : ℕ) → pipe_at pipes x y ≡ new_pipe
 still_rows [] all x y = refl
-still_rows (row ∷ wires) all zero y =
-    still_in row (and_parts (are_still_in row) (are_still wires) all).0 y
-still_rows (row ∷ wires) all (suc x) y =
-    still_rows wires (and_parts (are_still_in row) (are_still wires) all).1 x y
+still_rows (row ∷ pipes) all zero y =
+    still_in row (and_parts (are_still_in row) (are_still pipes) all).0 y
+still_rows (row ∷ pipes) all (suc x) y =
+    still_rows pipes (and_parts (are_still_in row) (are_still pipes) all).1 x y
 
 pub all_still : (net : ByteNetwork) → is_byte_rest net ≡ true → AllStill net
-all_still net rest = still_rows net.wires rest
+all_still net rest = still_rows net.pipes rest
 
 -- ---- links
 
@@ -200,7 +200,7 @@ module _ (world_law : WorldIsSound) (taken_out : LinkTakenOut) (rest_law : RestA
             far_there.at (all_still net rest)
 
         pub parted_still : AllStill (parted_net near far n f net)
-        parted_still x y = parted_is.wires x y ∙ all_still net rest x y
+        parted_still x y = parted_is.pipes x y ∙ all_still net rest x y
 
         -- who is joined with the near end without the link
         abbrev side_of : Option Name → Bool

@@ -1,4 +1,4 @@
--- Single connections, wires and servers, as lemmas on turns take them.
+-- Single connections, pipes and servers, as lemmas on turns take them.
 use Rattle.std.proofs.Common.{◌≡◌, ℕ, Bool, true, false, not, is_some, Option, Some, None, List, []}
 use Rattle.std.proofs.Common.{◌∷◌, ◌++◌, append_assoc, refl, sym, ◌∙◌, ap, subst, unwrap_or, filter}
 use Rattle.std.proofs.Common.{if◌then◌else◌}
@@ -12,7 +12,7 @@ use Rattle.irc_outbox.specs.Calls.{Call, asks, reads, writes, closes, taken, tak
 use Rattle.irc_batch.specs.Batches.{Sent}
 use Rattle.irc_stage.specs.View.{View}
 use Rattle.irc_network.specs.Network.{Network, Node, node_at, waiting}
-use Rattle.irc_wires.specs.Wires.{LinkWire}
+use Rattle.irc_pipes.specs.Pipes.{LinkPipe}
 use Rattle.irc_network.specs.ByteNetwork.{waiting_at}
 use Rattle.irc_network.specs.Whole.{has_way}
 use Rattle.irc_network.specs.Lemmas.NewFramer.{new_is_real}
@@ -113,19 +113,19 @@ no_way_waits net x y none = by (node_at net x) refl
     by None at = refl
     by (Some node) at = by_way node at (get node.queues y) refl
 
--- ---- wires
+-- ---- pipes
 
-abbrev pub wire_of : Begun → List ℕ → LinkWire
-wire_of begun bytes = record { begun = begun; bytes = bytes }
+abbrev pub pipe_of : Begun → List ℕ → LinkPipe
+pipe_of begun bytes = record { begun = begun; bytes = bytes }
 
-pub same_wire : (b c : Begun) (xs ys : List ℕ) → b ≡ c → xs ≡ ys → wire_of b xs ≡ wire_of c ys
-same_wire b c xs ys one two = λ i. wire_of (one i) (two i)
+pub same_pipe : (b c : Begun) (xs ys : List ℕ) → b ≡ c → xs ≡ ys → pipe_of b xs ≡ pipe_of c ys
+same_pipe b c xs ys one two = λ i. pipe_of (one i) (two i)
 
 pub real_or_none : (framer : Option Begun) → IsRealIf framer → IsRealBegun (begun_or_none framer)
 real_or_none None real = new_is_real
 real_or_none (Some begun) real = real begun refl
 
--- three stretches of bytes, as they go from the server to the wire
+-- three stretches of bytes, as they go from the server to the pipe
 pub moved : (sent held more gone left : List ℕ) → held ++ more ≡ gone ++ left
     → (sent ++ held) ++ more ≡ (sent ++ gone) ++ left
 moved sent held more gone left is = append_assoc sent held more ∙ ap (λ xs. sent ++ xs) is

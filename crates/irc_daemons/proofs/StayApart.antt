@@ -10,10 +10,10 @@ use Rattle.irc_stage.specs.Ways.{AreEnds}
 use Rattle.irc_server.specs.Own.{ServedKeepsEnds}
 use Rattle.irc_network.specs.Node.{Served}
 use Rattle.irc_stage.specs.View.{View}
-use Rattle.irc_wires.specs.Wires.{Wires}
+use Rattle.irc_pipes.specs.Pipes.{Pipes}
 use Rattle.irc_network.specs.ByteNetwork.{ByteNetwork, bytes_come, completed_in}
 use Rattle.irc_network.specs.Network.{begun}
-use Rattle.irc_network.specs.ByteNetwork.{wires_come}
+use Rattle.irc_network.specs.ByteNetwork.{pipes_come}
 use Rattle.irc_network.specs.Whole.{IsTidy}
 use Rattle.irc_daemons.specs.Clients.{ClientsStay}
 use Rattle.irc_daemons.proofs.GoesOn.{GoesOn, bytes_go_on}
@@ -29,7 +29,7 @@ front_enough front rest bytes is =
 
 -- ---- one server does something by which no client comes to it
 
-module _ (place : ℕ) (next : Served) (along : Wires) (old new : ByteNetwork)
+module _ (place : ℕ) (next : Served) (along : Pipes) (old new : ByteNetwork)
     (goes : GoesOn place next along old new) (view : View)
     (at : server_at old.network place ≡ Some (Some view))
   where
@@ -94,17 +94,17 @@ module _ (from to count : ℕ) (net : ByteNetwork) (tidy : IsTidy net) (view : V
     abbrev last : ByteNetwork
     last = (bytes_come from to count (begun net)).state
 
-    goes_on_so : GoesOn to next (wires_come net from to count) net last
+    goes_on_so : GoesOn to next (pipes_come net from to count) net last
     goes_on_so = bytes_go_on from to count net view tidy at
 
     pub ends_still : ServedKeepsEnds → AreAllEnds net.network
         → AreAllEnds (bytes_come from to count (begun net)).state.network
     ends_still keeps ends =
-        ends_then to next (wires_come net from to count) net last goes_on_so view at
+        ends_then to next (pipes_come net from to count) net last goes_on_so view at
         (all_keep_ends keeps from view (completed_in net from to count) (ends to view at)) ends
 
     pub own_still : ClientsStay → AreOwn net.network
         → AreOwn (bytes_come from to count (begun net)).state.network
     own_still stay own =
-        own_then to next (wires_come net from to count) net last goes_on_so view at
+        own_then to next (pipes_come net from to count) net last goes_on_so view at
         (all_bring_nobody stay from view (completed_in net from to count)) own

@@ -27,7 +27,7 @@ use Rattle.irc_network.specs.Node.{Served, reply, serves_read_event}
 use Rattle.irc_world.specs.Stepping.{Item}
 use Rattle.irc_world.specs.World.{home_in}
 use Rattle.irc_network.specs.Network.{Node, begun, item_kept, node_asked, node_at}
-use Rattle.irc_wires.specs.Wires.{LinkWire, new_wire, wire_at}
+use Rattle.irc_pipes.specs.Pipes.{LinkPipe, new_pipe, pipe_at}
 use Rattle.irc_network.specs.ByteNetwork.{ByteNetwork, queues_written}
 use Rattle.irc_network.specs.Whole.{IsTidy, has_way}
 use Rattle.irc_engine.specs.declared.connection_table.Connection.{Connection}
@@ -43,7 +43,7 @@ use Rattle.irc_daemons.specs.AsBytes.{IsServerIf, numbers_at}
 use Rattle.irc_daemons.specs.AsNetwork.{AreReceived, AreSeated, IsAsNetwork}
 use Rattle.irc_daemons.specs.Clients.{ClientsStay}
 use Rattle.irc_daemons.specs.Daemons.{AreJoined, Daemons, connection_at, connection_in, end_at}
-use Rattle.irc_daemons.specs.Daemons.{unsent, wire_between}
+use Rattle.irc_daemons.specs.Daemons.{unsent, pipe_between}
 use Rattle.irc_daemons.specs.Doings.{Doings, taken_at}
 use Rattle.irc_daemons.specs.Receiving.{bytes_received}
 use Rattle.irc_daemons.specs.Steps.{came_after, seats_after}
@@ -64,7 +64,7 @@ use Rattle.irc_daemons.proofs.ReadParts.{part_reads}
 use Rattle.irc_daemons.proofs.Sent.{server_at}
 use Rattle.irc_daemons.proofs.Silence.{nothing_answered, still_there}
 use Rattle.irc_daemons.proofs.Single.{HasServer, HasView, HaveViews, has_server, has_view}
-use Rattle.irc_daemons.proofs.Single.{have_views, same_wire}
+use Rattle.irc_daemons.proofs.Single.{have_views, same_pipe}
 use Rattle.irc_daemons.proofs.Told.{begun_or_none}
 use Rattle.irc_daemons.proofs.Turn.{BeginsWith, IsMade, came_of, client_comes as newcomer_comes}
 use Rattle.irc_daemons.proofs.Turn.{link_comes as link_begins, nobody_comes}
@@ -619,23 +619,23 @@ module _ {W : Type 0} (is_after : W → List Call → Type 0) (pieces : PiecesCo
         (homes_same : mid_net.network.homes ≡ old_net.network.homes)
         (received_same : mid_net.network.received ≡ old_net.network.received)
         (ways_mid : (x y : ℕ) → has_way mid_net.network x y ≡ base.ways x y)
-        (wires_same : (x y : ℕ) → wire_at mid_net.wires x y ≡ wire_at old_net.wires x y)
+        (pipes_same : (x y : ℕ) → pipe_at mid_net.pipes x y ≡ pipe_at old_net.pipes x y)
         (tidy_mid : IsTidy mid_net)
         (told_now : (y : ℕ) → base.ways place y ≡ is_some (base.ends place y))
-        (still_in : tidings ≡ is_lost → (y : ℕ) → wire_at old_net.wires y place ≡ new_wire)
-        (still_out : tidings ≡ is_lost → wire_at old_net.wires place other ≡ new_wire) (item : Item)
+        (still_in : tidings ≡ is_lost → (y : ℕ) → pipe_at old_net.pipes y place ≡ new_pipe)
+        (still_out : tidings ≡ is_lost → pipe_at old_net.pipes place other ≡ new_pipe) (item : Item)
       where
         abbrev asked_net : ByteNetwork
         asked_net = queues_written
             (item_kept item (node_asked place read_event (begun mid_net.network))).state
-            mid_net.wires
+            mid_net.pipes
 
-        -- ---- wires
+        -- ---- pipes
 
         transit_still : tidings ≡ is_lost → (y : ℕ) → old.transit y place ≡ []
         transit_still lost y =
             front_none (old.transit y place) (unsent (end_at old y place))
-            (ap (λ (w : LinkWire). w.bytes) (sym (same.as_bytes.wires y place) ∙ still_in lost y))
+            (ap (λ (w : LinkPipe). w.bytes) (sym (same.as_bytes.pipes y place) ∙ still_in lost y))
 
         record IsSameEnd : Type 0 where
           same_unsent : unsent (end_at old place other) ≡ unsent (end_at base place other)
@@ -667,11 +667,11 @@ module _ {W : Type 0} (is_after : W → List Call → Type 0) (pieces : PiecesCo
             ∙ ap (λ t. option_and_then (connection_at old place) (end_by t conn)) is in record {
               same_unsent =
                   rest_none (old.transit place other) (unsent (end_at old place other))
-                  (ap (λ (w : LinkWire). w.bytes) (sym (same.as_bytes.wires place other)
+                  (ap (λ (w : LinkPipe). w.bytes) (sym (same.as_bytes.pipes place other)
                   ∙ still_out is))
                   ∙ sym (ap unsent gone);
               same_begun =
-                  ap (λ (w : LinkWire). w.begun) (sym (same.as_bytes.wires other place)
+                  ap (λ (w : LinkPipe). w.begun) (sym (same.as_bytes.pipes other place)
                   ∙ still_in is other)
                   ∙ sym (ap (λ o. begun_or_none (begun_at o)) gone);
             }
@@ -726,10 +726,10 @@ module _ {W : Type 0} (is_after : W → List Call → Type 0) (pieces : PiecesCo
                 sym (ap (λ o. begun_or_none (begun_at o))
                 (other_end x y (λ is. cc (sym (eq-eqb x place is) ∙ away))))
 
-        wires_mid : (x y : ℕ) → wire_at mid_net.wires x y ≡ wire_between base x y
-        wires_mid x y =
-            wires_same x y ∙ same.as_bytes.wires x y
-            ∙ same_wire (begun_or_none (begun_at (end_at old y x))) (begun_or_none
+        pipes_mid : (x y : ℕ) → pipe_at mid_net.pipes x y ≡ pipe_between base x y
+        pipes_mid x y =
+            pipes_same x y ∙ same.as_bytes.pipes x y
+            ∙ same_pipe (begun_or_none (begun_at (end_at old y x))) (begun_or_none
             (begun_at (end_at base y x))) (old.transit x y ++ unsent (end_at old x y))
             (old.transit x y ++ unsent (end_at base x y)) (begun_same y x)
             (ap (λ bs. old.transit x y ++ bs) (unsent_same x y))
@@ -965,15 +965,15 @@ module _ {W : Type 0} (is_after : W → List Call → Type 0) (pieces : PiecesCo
 
         pub told_followed : IsAsNetwork names new
             (queues_written (item_kept item (node_asked place (read_event_by tidings other)
-            (begun mid_net.network))).state mid_net.wires)
+            (begun mid_net.network))).state mid_net.pipes)
         told_followed =
             assembled is_after pieces names place base new telling.step not_itself same.clients_open
             here.of.in_order here.of.framers joined_now ends_begin mid_net
             asked_net own.state last.state went last.is serves_all own_open servers_mid ways_mid
-            (λ y. wires_mid place y)
-            (λ x y apart there. wires_mid x y)
+            (λ y. pipes_mid place y)
+            (λ x y apart there. pipes_mid x y)
             (λ x apart.
-            wires_mid x place
+            pipes_mid x place
             ∙ incoming_stays is_after pieces names place base new telling.step not_itself
             same.clients_open here.of.in_order here.of.framers joined_now ends_begin
             (unread tidings refl) x apart)

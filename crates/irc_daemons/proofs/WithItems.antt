@@ -7,15 +7,15 @@ use Rattle.irc_world.specs.Stepping.{Item}
 use Rattle.irc_server.specs.LineEnds.{ServedLinesEnd}
 use Rattle.irc_server.specs.Own.{ServedGoesToItsOwn}
 use Rattle.irc_network.specs.Network.{node_at}
-use Rattle.irc_wires.specs.Lemmas.StillWires.{still_is_new}
-use Rattle.irc_wires.specs.Wires.{LinkWire, new_wire}
+use Rattle.irc_pipes.specs.Lemmas.StillPipes.{still_is_new}
+use Rattle.irc_pipes.specs.Pipes.{LinkPipe, new_pipe}
 use Rattle.irc_network.specs.ByteNetwork.{ByteNetwork}
 use Rattle.irc_daemons.specs.Alike.{ServedAlike}
 use Rattle.irc_daemons.specs.AsBytes.{IsServerIf, numbers_at}
 use Rattle.irc_daemons.specs.AsNetwork.{HasFollowed, IsAsNetwork}
 use Rattle.irc_daemons.specs.Clients.{ClientsStay}
 use Rattle.irc_daemons.specs.Daemons.{AreLinksOpen, Daemons, IsToldOfLinks, end_at, unsent}
-use Rattle.irc_daemons.specs.Daemons.{wire_between}
+use Rattle.irc_daemons.specs.Daemons.{pipe_between}
 use Rattle.irc_daemons.specs.Doings.{taken_at}
 use Rattle.irc_daemons.specs.EachStep.{AreFollowed, ArePlaced, ReadsLink}
 use Rattle.irc_daemons.specs.Items.{AreItems, IsApartStep, IsQuiet, has_item}
@@ -55,8 +55,8 @@ module _ {W : Type 0} (is_after : W → List Call → Type 0) (pieces : PiecesCo
         carried items net links items_are apart told_of_links same placed unread quiet
 
     -- where all is quiet nothing is read
-    still_between : IsQuiet old → (x y : ℕ) → wire_between old x y ≡ new_wire
-    still_between quiet x y = still_is_new (wire_between old x y) (quiet x y)
+    still_between : IsQuiet old → (x y : ℕ) → pipe_between old x y ≡ new_pipe
+    still_between quiet x y = still_is_new (pipe_between old x y) (quiet x y)
 
     nothing_read : IsQuiet old → (y q : ℕ) → old.ends place y ≡ Some q → came q ≡ []
     nothing_read quiet y q is =
@@ -65,12 +65,12 @@ module _ {W : Type 0} (is_after : W → List Call → Type 0) (pieces : PiecesCo
         ∙ front_none (taken_at (Some q) step.did.calls) (new.transit y place)
         (ap (λ o. taken_at o step.did.calls ++ new.transit y place) (sym is) ∙ sym (step.reads y)
         ∙ front_none (old.transit y place) (unsent (end_at old y place))
-        (ap (λ (w : LinkWire). w.bytes) (still_between quiet y place)))
+        (ap (λ (w : LinkPipe). w.bytes) (still_between quiet y place)))
 
     pub items_followed : has_item step.did.events ≡ true → HasFollowed names items net new
     items_followed some =
         unread_followed (nothing_read (apart.quiet some))
-        (λ is x y. same.as_bytes.wires x y ∙ still_between (apart.quiet some) x y)
+        (λ is x y. same.as_bytes.pipes x y ∙ still_between (apart.quiet some) x y)
 
     pub nothing_followed : (¬ (ReadsLink step)) → has_item step.did.events ≡ false
         → HasFollowed names items net new

@@ -1,4 +1,4 @@
--- Lines that are written along a wire, and the bytes that they are.
+-- Lines that are written along a pipe, and the bytes that they are.
 use Rattle.std.proofs.Common.{◌≡◌, ℕ, Bool, true, false, List, [], ◌∷◌, ◌++◌, append_assoc}
 use Rattle.std.proofs.Common.{append-nil, nat_eq, refl, sym, ◌∙◌, ap, if◌then◌else◌}
 use Rattle.std.specs.List.{AllByRecursion, flat_map}
@@ -6,7 +6,7 @@ use Rattle.irc_line.specs.Bytes.{crlf}
 use Rattle.irc_batch.specs.Batches.{Sent, end_of, end_of_link, line_on, line_to}
 use Rattle.irc_network.specs.Node.{line_body}
 use Rattle.irc_server.specs.LineEnds.{EndsInLineEnd}
-use Rattle.irc_wires.specs.Wires.{LinkWire, written}
+use Rattle.irc_pipes.specs.Pipes.{LinkPipe, written}
 use Rattle.irc_network.specs.ByteNetwork.{all_written}
 use Rattle.irc_daemons.specs.Alike.{link_bytes}
 
@@ -23,13 +23,13 @@ ends_both [] other = refl
 ends_both (line ∷ one) other = ap (λ bytes. with_end line ++ bytes) (ends_both one other)
     ∙ sym (append_assoc (with_end line) (with_ends one) (with_ends other))
 
-pub written_all : (lines : List (List ℕ)) (wire : LinkWire)
-    → all_written lines wire ≡ record { begun = wire.begun; bytes = wire.bytes ++ with_ends lines }
-written_all [] wire = λ i. record { begun = wire.begun; bytes = sym (append-nil wire.bytes) i }
-written_all (line ∷ lines) wire =
-    written_all lines (written line wire) ∙ (λ i. record {
-      begun = wire.begun;
-      bytes = append_assoc wire.bytes (line ++ crlf) (with_ends lines) i;
+pub written_all : (lines : List (List ℕ)) (pipe : LinkPipe)
+    → all_written lines pipe ≡ record { begun = pipe.begun; bytes = pipe.bytes ++ with_ends lines }
+written_all [] pipe = λ i. record { begun = pipe.begun; bytes = sym (append-nil pipe.bytes) i }
+written_all (line ∷ lines) pipe =
+    written_all lines (written line pipe) ∙ (λ i. record {
+      begun = pipe.begun;
+      bytes = append_assoc pipe.bytes (line ++ crlf) (with_ends lines) i;
     })
 
 -- ---- what is put out on a link

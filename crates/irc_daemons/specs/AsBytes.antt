@@ -3,14 +3,14 @@ use Rattle.std.specs.Prelude.{◌≡◌, ℕ, ⊤, Option, Some, None}
 use Rattle.std.specs.List.{slice_get}
 use Rattle.irc_line.specs.Lines.{Begun, HasTaken, stream_for}
 use Rattle.irc_network.specs.Network.{Node, node_at}
-use Rattle.irc_wires.specs.Wires.{wire_at}
+use Rattle.irc_pipes.specs.Pipes.{pipe_at}
 use Rattle.irc_network.specs.ByteNetwork.{ByteNetwork}
 use Rattle.irc_network.specs.Whole.{IsTidy, has_way}
 use Rattle.irc_engine.specs.Hearing.{begun_at}
 use Rattle.irc_engine.specs.Running.{IsInOrder, Moment}
 use Rattle.irc_engine.specs.EngineView.{EngineView}
 use Rattle.irc_daemons.specs.Alike.{AreServersAlikeIf, Numbers}
-use Rattle.irc_daemons.specs.Daemons.{Daemons, wire_between}
+use Rattle.irc_daemons.specs.Daemons.{Daemons, pipe_between}
 
 -- the numbers at a place
 abbrev pub numbers_at : {W : Type 0} → Daemons W → ℕ → Numbers
@@ -41,5 +41,5 @@ pub record IsAsBytes {W : Type 0} (daemons : Daemons W) (net : ByteNetwork) : Ty
   pub servers : (place : ℕ) → IsServerIf (numbers_at daemons place)
       (slice_get daemons.engines place) (node_at net.network place)
   pub ways : (from to : ℕ) → has_way net.network from to ≡ daemons.ways from to
-  pub wires : (from to : ℕ) → wire_at net.wires from to ≡ wire_between daemons from to
+  pub pipes : (from to : ℕ) → pipe_at net.pipes from to ≡ pipe_between daemons from to
   pub tidy : IsTidy net

@@ -13,7 +13,7 @@ use Rattle.std.specs.Prelude.{◌≡◌, ℕ, ◌++◌, Bool, Option, Some, None
 use Rattle.std.specs.List.{slice_get}
 use Rattle.std.specs.Option.{option_and_then}
 use Rattle.irc_line.specs.Lines.{nothing_begun}
-use Rattle.irc_wires.specs.Wires.{LinkWire}
+use Rattle.irc_pipes.specs.Pipes.{LinkPipe}
 use Rattle.irc_engine.specs.declared.connection_table.Connection.{Connection}
 use Rattle.irc_engine.specs.declared.kind.ConnectionKind.TheVariants as kinds
 use Rattle.irc_engine.specs.Carrying.{open_kind_at}
@@ -58,8 +58,8 @@ unsent (Some connection) = connection.outbox.bytes
 
 -- What the near engine has put out by a link and the far one has not read: first what is in
 -- transit, and behind it the outbox. What has come of a line is in the framer of the far end.
-abbrev pub wire_between : {W : Type 0} → Daemons W → ℕ → ℕ → LinkWire
-wire_between daemons from to = record {
+abbrev pub pipe_between : {W : Type 0} → Daemons W → ℕ → ℕ → LinkPipe
+pipe_between daemons from to = record {
   begun = unwrap_or (begun_at (end_at daemons to from)) nothing_begun;
   bytes = daemons.transit from to ++ unsent (end_at daemons from to);
 }

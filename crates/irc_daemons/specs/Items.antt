@@ -20,7 +20,7 @@ use Rattle.irc_relay.specs.Links.{Name}
 use Rattle.irc_server.specs.declared.event.Event.{Event}
 use Rattle.irc_server.specs.declared.event.Event.TheVariants.{Connect, Line, Gone, LinkLine, LinkUp}
 use Rattle.irc_world.specs.Stepping.{Item, connect, line, gone}
-use Rattle.irc_wires.specs.Wires.{is_still}
+use Rattle.irc_pipes.specs.Pipes.{is_still}
 use Rattle.irc_engine.specs.declared.engine.OutboxSizes.{OutboxSizes}
 use Rattle.irc_engine.specs.declared.kind.ConnectionKind.{ConnectionKind}
 use Rattle.irc_engine.specs.declared.kind.ConnectionKind.TheVariants as kinds
@@ -29,7 +29,7 @@ use Rattle.irc_engine.specs.Running.{Answers, AreAsked, ServerAsked, Moment, Ran
 use Rattle.irc_engine.specs.Running.{Turn}
 use Rattle.irc_engine.specs.Running.{asked_at, in_use, makes_connection, not_open, read_once}
 use Rattle.irc_names.specs.Names.{IsHost}
-use Rattle.irc_daemons.specs.Daemons.{Daemons, wire_between}
+use Rattle.irc_daemons.specs.Daemons.{Daemons, pipe_between}
 use Rattle.irc_daemons.specs.Doings.{ran_did}
 use Rattle.irc_daemons.specs.Steps.{Steps}
 
@@ -67,7 +67,7 @@ pub data AreItems {W : Type 0} (names : List Name) (daemons : Daemons W) (place 
 -- between servers nothing is in transit or in an outbox, and no framer of a link's end has a part
 -- of a line
 abbrev pub IsQuiet : {W : Type 0} → Daemons W → Type 0
-IsQuiet daemons = (x y : ℕ) → is_still (wire_between daemons x y) ≡ true
+IsQuiet daemons = (x y : ℕ) → is_still (pipe_between daemons x y) ≡ true
 
 -- whether there is an item among some events
 abbrev pub has_item : List Event → Bool
@@ -97,7 +97,7 @@ module _ {W : Type 0} (is_after : W → List Call → Type 0) where
   StartsSpaced later kind room conn event old new (in_use used ran) =
       RanSpaced later [] [] nothing_of old new ran
   StartsSpaced later kind room conn event old new
-      (makes_connection between free server journal wire lost waiting size set ran) =
+      (makes_connection between free server journal pipe lost waiting size set ran) =
       RanSpaced later [] (event ∷ []) nothing_of between new ran
 
   abbrev pub ReadsSpaced : (later : Bool) (conn : ℕ) (old new : Moment W)
@@ -125,7 +125,7 @@ module _ {W : Type 0} (is_after : W → List Call → Type 0) where
       AnswersSpaced
       (has_item (ran_did is_after turn.does.writes.exchanges [] nothing_of turn.does.between new
       turn.does.writes.ran).events) sizes turn.report
-      (record old { wire = turn.wire }) turn.does.between turn.does.answers
+      (record old { pipe = turn.pipe }) turn.does.between turn.does.answers
       × RanSpaced false turn.does.writes.exchanges [] nothing_of turn.does.between new
       turn.does.writes.ran
 

@@ -30,7 +30,7 @@ use Rattle.irc_stage.specs.Handle.{to_viewer}
 use Rattle.irc_stage.specs.Linked.{told_on_all}
 use Rattle.irc_stage.specs.View.{View}
 use Rattle.irc_server.specs.DeedTold.{deed_told, told_by}
-use Rattle.irc_wire.specs.Lemmas.LinesReadBack.{command_plain, from_plain}
+use Rattle.irc_readback.specs.Lemmas.LinesReadBack.{command_plain, from_plain}
 use Rattle.irc_follow.specs.SideState.{ItemSetting, number, IsItemSetting, IsSoundSide}
 use Rattle.irc_follow.specs.SideState as of_side
 use Rattle.irc_follow.specs.Fits.{Fits}

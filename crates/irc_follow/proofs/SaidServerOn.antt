@@ -44,7 +44,7 @@ use Rattle.irc_stage.specs.EffectTold.{Served, all_changed, in_silence}
 use Rattle.irc_stage.specs.Linked.{told_on_all}
 use Rattle.irc_stage.specs.View.{View}
 use Rattle.irc_server.specs.DeedTold.{deed_told, forgotten, told_by}
-use Rattle.irc_wire.specs.Lemmas.LinesReadBack.{carried_no_nul, command_plain, from_plain}
+use Rattle.irc_readback.specs.Lemmas.LinesReadBack.{carried_no_nul, command_plain, from_plain}
 use Rattle.irc_follow.specs.SideState.{ItemSetting, number, IsItemSetting, IsSoundSide}
 use Rattle.irc_follow.specs.SideState as of_side
 use Rattle.irc_follow.specs.Fits.{Fits}

@@ -43,7 +43,7 @@ pub fn passed_by_stays()
 pub fn said_effect_goes_on()
     ensures { SaidEffectGoesOn }
 {
-    irc_wire::laws::each_is_read_back();
+    irc_readback::laws::each_is_read_back();
 }
 
 /// So it does with a KILL of a server (RFC 2812 section 3.7.1), whichever link it came by.

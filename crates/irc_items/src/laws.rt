@@ -38,7 +38,7 @@ pub fn given_stays_sound()
     irc_merge::laws::lines_can_be_done();
     irc_merge::laws::squits_split();
     irc_merge::laws::within_limits_is_told();
-    irc_wire::laws::each_is_read_back();
+    irc_readback::laws::each_is_read_back();
     irc_commands::laws::decided_is_possible();
     irc_commands::laws::registering_is_possible();
     irc_commands::laws::decided_does();

@@ -7,23 +7,23 @@ use Rattle.irc_relay.specs.Links.{Name}
 use Rattle.irc_world.specs.Stepping.{Item}
 use Rattle.irc_network.specs.Behind.{emptied}
 use Rattle.irc_network.specs.ByteNetwork.{ByteNetwork, all_heard}
-use Rattle.irc_network.specs.ByteNetwork.{bytes_come, completed_in, progress_without_wires}
+use Rattle.irc_network.specs.ByteNetwork.{bytes_come, completed_in, progress_without_pipes}
 use Rattle.irc_network.specs.ByteNetwork.{item_given}
 use Rattle.irc_network.specs.Turns.{TurnsGo, none_yet, turn_first, turn_in, turn_taken}
 use Rattle.irc_net.specs.declared.answer.Answer.{Answer}
 use Rattle.irc_net.specs.Calls.{BytesTaken, Delivers, IsDelivered, IsGiven, IsSettled, NetView}
 use Rattle.irc_net.specs.Calls.{delivers_it, given_it, line_between, piece_between, settles_it}
-use Rattle.irc_net.specs.Calls.{standing, takes_them, wire_between}
+use Rattle.irc_net.specs.Calls.{standing, takes_them, pipe_between}
 use Rattle.irc_net.specs.Laws.{AnswersAreReceived, HasReceived}
 use Rattle.irc_network.specs.Laws.{ReceiptsAreReceived}
 use Rattle.irc_network.specs.Network.{AreReceived, Progress, LinkPlaces, Network, Receipt, begun}
 use Rattle.irc_network.specs.Network.{link_places, given, heard, received_by}
 use Rattle.irc_network.specs.Views.{receipts_of}
-use Rattle.irc_wires.specs.Wires.{Direction, first_direction, has_byte, through_line_feed}
+use Rattle.irc_pipes.specs.Pipes.{Direction, first_direction, has_byte, through_line_feed}
 
 -- since clients had received what they have in a network
 abbrev IsTold : Network → Progress ByteNetwork → Type 0
-IsTold net progress = AreReceived net (progress_without_wires progress)
+IsTold net progress = AreReceived net (progress_without_pipes progress)
 
 nothing_told : (net : Network) → AreReceived net (begun net)
 nothing_told net client = sym (append-nil (received_by net client))
@@ -61,11 +61,11 @@ module _ (law : ReceiptsAreReceived) where
   unfolding bytes_come
   come_told net from to count progress told client =
       let last =
-      all_heard from to (progress_without_wires progress)
+      all_heard from to (progress_without_pipes progress)
       (completed_in progress.state from to count)
       in
       emptied_received last.state client ∙ heard_told net from to
-      (completed_in progress.state from to count) (progress_without_wires progress) told client
+      (completed_in progress.state from to count) (progress_without_pipes progress) told client
 
   item_told : (net : ByteNetwork) (item : Item) → IsTold net.network (item_given item net)
   unfolding item_given
@@ -74,7 +74,7 @@ module _ (law : ReceiptsAreReceived) where
 
   turn_told : (net : Network) (old new : Progress ByteNetwork) → turn_taken old ≡ Some new
       → IsTold net old → IsTold net new
-  turn_told net old new turn told = by (first_direction old.state.wires) turn
+  turn_told net old new turn told = by (first_direction old.state.pipes) turn
     where
       same_some : (a b : Progress ByteNetwork) → Some a ≡ Some b → a ≡ b
       same_some a b is = cc is
@@ -97,11 +97,11 @@ module _ (law : ReceiptsAreReceived) where
       come_told net.network ends.near ends.far count (begun net) (nothing_told net.network)
 
   abbrev through : ByteNetwork → LinkPlaces → Progress ByteNetwork
-  through net ends = piece_between (through_line_feed (wire_between net ends).bytes) net ends
+  through net ends = piece_between (through_line_feed (pipe_between net ends).bytes) net ends
 
   line_told : (net : ByteNetwork) (ends : LinkPlaces) (last : Progress ByteNetwork)
       → line_between net ends ≡ Some last → IsTold net.network last
-  line_told net ends last = by (has_byte (wire_between net ends))
+  line_told net ends last = by (has_byte (pipe_between net ends))
     where
       same_some : (a b : Progress ByteNetwork) → Some a ≡ Some b → a ≡ b
       same_some a b is = cc is

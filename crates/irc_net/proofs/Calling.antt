@@ -20,11 +20,11 @@ use Rattle.irc_network.specs.Loops.Coming.{bytes_between, come_between, progress
 use Rattle.irc_line.specs.Bytes.{line_feed}
 use Rattle.irc_relay.specs.Links.{linked as are_linked}
 use Rattle.irc_world.specs.Refused.{Refusal, no_such_server, not_linked}
-use Rattle.irc_wires.specs.Wires.{is_none, through_line_feed}
+use Rattle.irc_pipes.specs.Pipes.{is_none, through_line_feed}
 use Rattle.irc_net.specs.Calls.{ArePlayed, BytesTaken, Breaks, Delivers, IsDelivered, IsGiven}
 use Rattle.irc_net.specs.Calls.{IsSettled, IsStep, IsStepDone, NetView, PlaysSteps, Settles}
 use Rattle.irc_net.specs.Calls.{StopsAt, count_between, delivery, line_between, piece}
-use Rattle.irc_net.specs.Calls.{piece_between, standing, step_refused, then_one, wire_between}
+use Rattle.irc_net.specs.Calls.{piece_between, standing, step_refused, then_one, pipe_between}
 use Rattle.irc_net.specs.Loops.Coming.{AreEnds, ComesTo, HaveComeTo, IsNoWay}
 use Rattle.irc_net.specs.Calls as calls
 use Rattle.irc_net.specs.Faults.{deliver_fault, fault_by, is_refusal, item_fault}
@@ -128,24 +128,24 @@ some_feed (byte ∷ bytes) some = refl
 -- between two servers at these places
 between_none : (net : ByteNetwork) (from to : Name) (ends : LinkPlaces)
     → link_places net.network from to ≡ Some ends
-    → through_line_feed (wire_between net ends).bytes ≡ 0 → delivery net from to ≡ None
+    → through_line_feed (pipe_between net ends).bytes ≡ 0 → delivery net from to ≡ None
 between_none net from to ends is none =
     ap (option_and_then (line_between net)) is
-    ∙ ap (λ b. if b then Some (piece_between (through_line_feed (wire_between net ends).bytes) net
-    ends) else None) (no_feed (wire_between net ends).bytes none)
+    ∙ ap (λ b. if b then Some (piece_between (through_line_feed (pipe_between net ends).bytes) net
+    ends) else None) (no_feed (pipe_between net ends).bytes none)
 
 between_some : (net : ByteNetwork) (from to : Name) (ends : LinkPlaces)
     → link_places net.network from to ≡ Some ends
-    → (through_line_feed (wire_between net ends).bytes ≡ 0 → ⊥) → delivery net from to
-    ≡ Some (piece_between (through_line_feed (wire_between net ends).bytes) net ends)
+    → (through_line_feed (pipe_between net ends).bytes ≡ 0 → ⊥) → delivery net from to
+    ≡ Some (piece_between (through_line_feed (pipe_between net ends).bytes) net ends)
 between_some net from to ends is some =
     ap (option_and_then (line_between net)) is
-    ∙ ap (λ b. if b then Some (piece_between (through_line_feed (wire_between net ends).bytes) net
-    ends) else None) (some_feed (wire_between net ends).bytes some)
+    ∙ ap (λ b. if b then Some (piece_between (through_line_feed (pipe_between net ends).bytes) net
+    ends) else None) (some_feed (pipe_between net ends).bytes some)
 
 -- no byte was on its way
 pub none_came : (net : NetView) (from to : Name) (ends : EndPlaces) (lines : List KeptReceipt)
-    → AreEnds net from to ends → through_line_feed (wire_between net.network (ends_now ends)).bytes
+    → AreEnds net from to ends → through_line_feed (pipe_between net.network (ends_now ends)).bytes
     ≡ 0 → lines ≡ [] → IsDelivered net from to (Ok (false, receipts_of lines)) net
 none_came net from to ends lines are none nothing =
     calls.delivers_it are.stands are.none
@@ -156,7 +156,7 @@ none_came net from to ends lines are none nothing =
 -- some were
 pub some_came : (old new : NetView) (from to : Name) (ends : EndPlaces)
     (count taken : ℕ) (lines : List KeptReceipt) → AreEnds old from to ends
-    → count ≡ through_line_feed (wire_between old.network (ends_now ends)).bytes
+    → count ≡ through_line_feed (pipe_between old.network (ends_now ends)).bytes
     → (count ≡ 0 → ⊥) → ComesTo old ends count taken (receipts_of lines) new
     → IsDelivered old from to (Ok (true, receipts_of lines)) new
 some_came old new from to ends count taken lines are is some comes =

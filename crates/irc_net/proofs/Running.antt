@@ -21,7 +21,7 @@ use Rattle.irc_net.specs.declared.answer.Answer.{Answer}
 use Rattle.irc_net.specs.declared.fault.NetFault.TheVariants as fault
 use Rattle.irc_net.specs.Calls.{BytesTaken, Delivers, IsDelivered, IsGiven, IsSettled, NetView}
 use Rattle.irc_net.specs.Calls.{Settles, delivers_it, given_it, line_between, piece_between}
-use Rattle.irc_net.specs.Calls.{settles_it, standing, takes_them, wire_between}
+use Rattle.irc_net.specs.Calls.{settles_it, standing, takes_them, pipe_between}
 use Rattle.irc_net.specs.Faults.{fault_by, item_fault}
 use Rattle.irc_net.specs.Laws.{EachSettles, EveryNetworkIsOneRoom, EveryRunIsKept, SettingsStay}
 use Rattle.irc_net.specs.Laws.{StaysKept, StaysSetUp}
@@ -32,7 +32,7 @@ use Rattle.irc_net.proofs.NewNet.{made_is_new}
 use Rattle.irc_net.proofs.StaysOneRoom.{few_taken, one_room, owed_all, owed_front, refuses}
 use Rattle.irc_network.specs.Network.{LinkPlaces, Receipt, begun, link_places, received_by}
 use Rattle.irc_network.specs.Refusing.{fault_at_rest}
-use Rattle.irc_wires.specs.Wires.{has_byte, through_line_feed}
+use Rattle.irc_pipes.specs.Pipes.{has_byte, through_line_feed}
 
 -- ---- what it has run to
 
@@ -106,7 +106,7 @@ module _ (stays : StaysKept) (set_up : SettingsStay) (configs : List Config) whe
       by (link_places old.network.network from to) delivers
     where
       count : LinkPlaces → ℕ
-      count ends = through_line_feed (wire_between old.network ends).bytes
+      count ends = through_line_feed (pipe_between old.network ends).bytes
 
       took : (ends : LinkPlaces) (b : Bool)
           → Delivers (if b then Some (piece_between (count ends) old.network ends)
@@ -118,7 +118,7 @@ module _ (stays : StaysKept) (set_up : SettingsStay) (configs : List Config) whe
       by : (o : Option LinkPlaces) → Delivers (option_and_then (line_between old.network) o)
           old.network was_taken receipts new → IsStanding configs items new
       by None so = run_at so.2 before.is_run
-      by (Some ends) so = took ends (has_byte (wire_between old.network ends)) so
+      by (Some ends) so = took ends (has_byte (pipe_between old.network ends)) so
 
   settled_run : {items : List Item} (old new : NetView) (counted : ℕ) (receipts : List Receipt)
       → IsSettled old (Ok (counted, receipts)) new → IsStanding configs items old

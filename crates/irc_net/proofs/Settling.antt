@@ -16,7 +16,7 @@ use Rattle.irc_net.specs.OneRoom.{IsKeptSound}
 use Rattle.irc_net.proofs.StaysOneRoom.{AreTurning, IsTurnOf, next_line, nothing, turn_is}
 use Rattle.irc_net.proofs.StaysOneRoom.{turns_kept}
 use Rattle.irc_network.specs.Network.{Progress, Receipt, begun, lines_left, max_count, next_in_turn}
-use Rattle.irc_wires.specs.Wires.{Direction, first_direction}
+use Rattle.irc_pipes.specs.Pipes.{Direction, first_direction}
 
 -- ---- turns behind others
 
@@ -68,8 +68,8 @@ lines_counted old new counted lines more turns goes is = record {
 -- ---- no byte is left
 
 no_direction : (progress : Progress ByteNetwork) → turn_taken progress ≡ None
-    → first_direction progress.state.wires ≡ None
-no_direction progress none = by (first_direction progress.state.wires) none
+    → first_direction progress.state.pipes ≡ None
+no_direction progress none = by (first_direction progress.state.pipes) none
   where
     by : (o : Option Direction) → option_map (turn_in progress) o ≡ None → o ≡ None
     by None is = refl

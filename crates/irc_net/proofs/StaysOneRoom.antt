@@ -27,7 +27,7 @@ use Rattle.irc_network.specs.ByteNetwork.{item_given}
 use Rattle.irc_network.specs.Turns.{TurnsGo, lines_in_turn, none_yet, turn_first, turn_taken}
 use Rattle.irc_network.specs.Whole.{AreLinesWaiting, BytesComeAsLines, Delivers, GivenAsLines}
 use Rattle.irc_network.specs.Whole.{NewIsWhole, RestAsLines, TurnAsLines, TurnsAsLines}
-use Rattle.irc_network.specs.Whole.{no_line, no_more, no_wires, one_first, one_line}
+use Rattle.irc_network.specs.Whole.{no_line, no_more, no_pipes, one_first, one_line}
 use Rattle.irc_network.specs.Loops.Coming.{come_between, progress_of}
 use Rattle.irc_net.specs.Calls.{NetView, standing}
 use Rattle.irc_net.specs.Laws.{KeptIsOwed, StaysKept}
@@ -124,7 +124,7 @@ one_room at_rest no_link new_link resting net kept = record {
 -- ---- a new one
 
 pub kept_new : NewNetworkIsSound → NewIsWhole → (net : Network) → IsNew net
-    → IsKeptSound (no_wires net)
+    → IsKeptSound (no_pipes net)
 kept_new law as_new net new =
     let so = as_new net new.queues in
     record {

@@ -14,7 +14,7 @@ use Rattle.irc_stage.specs.View.{View}
 use Rattle.irc_world.specs.Stepping.{Item}
 use Rattle.irc_network.specs.Behind.{Ahead, emptied, emptied_node, nodes_behind}
 use Rattle.irc_network.specs.ByteNetwork.{ByteNetwork, all_heard}
-use Rattle.irc_network.specs.ByteNetwork.{bytes_come, completed_in, progress_without_wires}
+use Rattle.irc_network.specs.ByteNetwork.{bytes_come, completed_in, progress_without_pipes}
 use Rattle.irc_network.specs.ByteNetwork.{item_given, lines_ahead, net_in_lines}
 use Rattle.irc_network.specs.Turns.{TurnsGo, none_yet, turn_first, turn_in, turn_taken}
 use Rattle.irc_items.specs.Laws.{GivenKeepsSettings}
@@ -29,7 +29,7 @@ use Rattle.irc_network.specs.Network.{given, has_received, has_received_at, hear
 use Rattle.irc_network.specs.Network.{line_counted, line_queued, reply, sent_out, serves_read_event}
 use Rattle.irc_network.specs.Network.{begun, node_asked, node_at, node_changed_at, with_reply}
 use Rattle.irc_network.specs.Network.{with_node}
-use Rattle.irc_wires.specs.Wires.{Direction, first_direction}
+use Rattle.irc_pipes.specs.Pipes.{Direction, first_direction}
 
 -- What is read of a network, where neither what clients receive nor a server that is set up as
 -- before makes a difference to it.
@@ -88,7 +88,7 @@ behind_alike ahead (node ∷ nodes) =
 
 pub settings_in_lines : (net : ByteNetwork)
     → settings_of (net_in_lines net) ≡ settings_of net.network
-settings_in_lines net = behind_alike (lines_ahead net.wires) net.network.nodes
+settings_in_lines net = behind_alike (lines_ahead net.pipes) net.network.nodes
 
 -- ---- a server is asked
 
@@ -200,14 +200,14 @@ module _ {X : Type 0} (read : Network → X) (left : IsLeft read) where
         → read (bytes_come from to count progress).state.network ≡ read progress.state.network
     unfolding bytes_come
     come_keeps from to count progress =
-        left.emptied_too (all_heard from to (progress_without_wires progress)
+        left.emptied_too (all_heard from to (progress_without_pipes progress)
         (completed_in progress.state from to count)).state
         ∙ heard_keep from to (completed_in progress.state from to count)
-        (progress_without_wires progress)
+        (progress_without_pipes progress)
 
     turn_keeps : (old new : Progress ByteNetwork) → turn_taken old ≡ Some new
         → read new.state.network ≡ read old.state.network
-    turn_keeps old new turn = by (first_direction old.state.wires) turn
+    turn_keeps old new turn = by (first_direction old.state.pipes) turn
       where
         same_some : (a b : Progress ByteNetwork) → Some a ≡ Some b → a ≡ b
         same_some a b is = cc is

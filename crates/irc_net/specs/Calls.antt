@@ -19,7 +19,7 @@ use Rattle.irc_net.specs.Faults.{deliver_fault, is_refusal, item_fault}
 use Rattle.irc_network.specs.Network.{Progress, LinkPlaces, Receipt, begun, link_places, max_count}
 use Rattle.irc_network.specs.Network.{number_given}
 use Rattle.irc_network.specs.Views.{item_of, receipts_of}
-use Rattle.irc_wires.specs.Wires.{LinkWire, has_byte, through_line_feed, wire_at}
+use Rattle.irc_pipes.specs.Pipes.{LinkPipe, has_byte, through_line_feed, pipe_at}
 use Rattle.irc_network.specs.ByteNetwork.{ByteNetwork, bytes_come}
 use Rattle.irc_network.specs.ByteNetwork.{is_byte_rest, item_given}
 use Rattle.irc_network.specs.Turns.{TurnsGo}
@@ -69,8 +69,8 @@ pub data IsGiven : NetView → Item → Result Answer NetFault → NetView → T
 -- ---- bytes that come
 
 -- what is on its way from the near end to the far one
-abbrev pub wire_between : ByteNetwork → LinkPlaces → LinkWire
-wire_between net ends = wire_at net.wires ends.near ends.far
+abbrev pub pipe_between : ByteNetwork → LinkPlaces → LinkPipe
+pipe_between net ends = pipe_at net.pipes ends.near ends.far
 
 -- so many bytes come from one server to another, or all that are on their way where there are fewer
 abbrev pub piece_between : ℕ → ByteNetwork → LinkPlaces → Progress ByteNetwork
@@ -82,7 +82,7 @@ piece count net from to =
 
 -- how many come
 abbrev pub count_between : ℕ → ByteNetwork → LinkPlaces → ℕ
-count_between count net ends = min count (length (wire_between net ends).bytes)
+count_between count net ends = min count (length (pipe_between net ends).bytes)
 
 -- between names that are no servers none come
 abbrev pub piece_count : ℕ → ByteNetwork → Name → Name → ℕ
@@ -116,8 +116,8 @@ pub data BytesTaken : NetView → Name → Name → ℕ → Result (ℕ × List 
 -- all bytes up to and with the next LF
 abbrev pub line_between : ByteNetwork → LinkPlaces → Option (Progress ByteNetwork)
 line_between net ends =
-    if has_byte (wire_between net ends) then Some
-    (piece_between (through_line_feed (wire_between net ends).bytes) net ends) else None
+    if has_byte (pipe_between net ends) then Some
+    (piece_between (through_line_feed (pipe_between net ends).bytes) net ends) else None
 
 -- none where no byte is on its way from one server to another
 abbrev pub delivery : ByteNetwork → Name → Name → Option (Progress ByteNetwork)

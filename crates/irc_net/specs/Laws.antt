@@ -6,7 +6,7 @@ use Rattle.irc_world.specs.WithinLimits.{IsItemWithin}
 use Rattle.irc_items.specs.SetUp.{settings_of, IsNew}
 use Rattle.irc_server.specs.declared.config.Config.{Config}
 use Rattle.irc_network.specs.ByteNetwork.{ByteNetwork, bytes_come, item_given}
-use Rattle.irc_network.specs.Whole.{no_wires}
+use Rattle.irc_network.specs.Whole.{no_pipes}
 use Rattle.irc_net.specs.declared.answer.Answer.{Answer}
 use Rattle.irc_net.specs.Calls.{BytesTaken, IsDelivered, IsGiven, IsSettled, NetView, Settles}
 use Rattle.irc_net.specs.Calls.{standing}
@@ -67,7 +67,7 @@ pub record SettingsStay : Type 0 where
 -- A new network is sound, and it stays so by each item that is taken, by bytes that come, and as it
 -- settles.
 pub record StaysKept : Type 0 where
-  pub new : (net : Network) → IsNew net → IsKeptSound (no_wires net)
+  pub new : (net : Network) → IsNew net → IsKeptSound (no_pipes net)
   pub given : (net : ByteNetwork) (item : Item) → IsKeptSound net → item_fault net item ≡ None
       → IsItemWithin item → IsKeptSound (item_given item net).state
   pub come : (net : ByteNetwork) (from to count : ℕ) → IsKeptSound net

@@ -18,7 +18,7 @@ use Rattle.irc_net.specs.declared.making.NetConfigFault.TheVariants.{BadName, Do
 use Rattle.irc_net.specs.declared.making.NetConfigFault.TheVariants.{Memory}
 use Rattle.irc_net.specs.Calls.{NetView}
 use Rattle.irc_network.specs.ByteNetwork.{ByteNetwork}
-use Rattle.irc_network.specs.Whole.{no_wires}
+use Rattle.irc_network.specs.Whole.{no_pipes}
 use Rattle.irc_network.specs.Network.{Network, Node}
 
 abbrev pub config_name : Config → Name
@@ -94,7 +94,7 @@ pub record IsMadeOf (configs : List Config) (net : ByteNetwork) : Type 0 where
   pub ordered : List Config
   pub same_ones : IsPermutation configs ordered
   pub in_order : IsSortedByKey config_name (slice_cmp nat_cmp) ordered
-  pub network_is : net ≡ no_wires (made_of ordered)
+  pub network_is : net ≡ no_pipes (made_of ordered)
 
 -- what comes of configurations
 abbrev pub IsNetMade : List Config → Result NetView NetConfigFault → Type 0

@@ -15,14 +15,14 @@ use Rattle.irc_stage.specs.Lemmas.Numbers.{get-with, one_number, same_number, sa
 use Rattle.irc_network.specs.Network.{Progress, Network, Node, heard, left, line_body, line_counted}
 use Rattle.irc_network.specs.Network.{line_queued, node_asked, node_at, node_changed_at, waiting}
 use Rattle.irc_network.specs.Network.{with_node}
-use Rattle.irc_wires.specs.Wires.{AreLean, SameWires, LinkWire, Wires, new_wire, put_in, wire_at}
-use Rattle.irc_wires.specs.Wires.{wire_in, with_wire, written, written_at}
-use Rattle.irc_wires.specs.Lemmas.PutWires.{IsSetAt, get_set, it, nowhere, other_from, other_to}
-use Rattle.irc_wires.specs.Lemmas.PutWires.{wire_put, wire_set}
+use Rattle.irc_pipes.specs.Pipes.{AreLean, SamePipes, LinkPipe, Pipes, new_pipe, put_in, pipe_at}
+use Rattle.irc_pipes.specs.Pipes.{pipe_in, with_pipe, written, written_at}
+use Rattle.irc_pipes.specs.Lemmas.PutPipes.{IsSetAt, get_set, it, nowhere, other_from, other_to}
+use Rattle.irc_pipes.specs.Lemmas.PutPipes.{pipe_put, pipe_set}
 use Rattle.irc_network.specs.Behind.{Ahead, progress_behind, each_way, emptied, emptied_node}
 use Rattle.irc_network.specs.Behind.{net_behind, node_behind, nodes_behind}
 use Rattle.irc_network.specs.ByteNetwork.{ByteNetwork, all_heard, all_written}
-use Rattle.irc_network.specs.ByteNetwork.{progress_without_wires, progress_written, queues_written}
+use Rattle.irc_network.specs.ByteNetwork.{progress_without_pipes, progress_written, queues_written}
 use Rattle.irc_network.specs.ByteNetwork.{rows_written, waiting_at}
 use Rattle.irc_network.specs.Loops.Progress.{all_heard_out, asked_out, heard_out}
 use Rattle.irc_network.specs.Loops.Writing.{IsWritten}
@@ -39,8 +39,8 @@ use Rattle.irc_network.proofs.Places.{set_again}
 use Rattle.irc_network.proofs.Refilled.{alone, refilled}
 use Rattle.irc_network.proofs.WaysStay.{asked_keeps}
 
-abbrev WireRow : Type 0
-WireRow = FinMap nat_cmp LinkWire
+abbrev PipeRow : Type 0
+PipeRow = FinMap nat_cmp LinkPipe
 
 -- ---- other lines are left on a way
 
@@ -119,80 +119,80 @@ module _ (net : Network) (place to : ℕ) (node : Node) (lines rest : List (List
 
 -- ---- a line that waits and is written then, and one that is written at once
 
-written_behind : (lines : List (List ℕ)) (line : List ℕ) (wire : LinkWire)
-    → all_written (lines ++ line ∷ []) wire ≡ written line (all_written lines wire)
-written_behind [] line wire = refl
-written_behind (first ∷ lines) line wire = written_behind lines line (written first wire)
+written_behind : (lines : List (List ℕ)) (line : List ℕ) (pipe : LinkPipe)
+    → all_written (lines ++ line ∷ []) pipe ≡ written line (all_written lines pipe)
+written_behind [] line pipe = refl
+written_behind (first ∷ lines) line pipe = written_behind lines line (written first pipe)
 
-all_behind : (front back : List (List ℕ)) (wire : LinkWire)
-    → all_written (front ++ back) wire ≡ all_written back (all_written front wire)
-all_behind [] back wire = refl
-all_behind (line ∷ front) back wire = all_behind front back (written line wire)
+all_behind : (front back : List (List ℕ)) (pipe : LinkPipe)
+    → all_written (front ++ back) pipe ≡ all_written back (all_written front pipe)
+all_behind [] back pipe = refl
+all_behind (line ∷ front) back pipe = all_behind front back (written line pipe)
 
-row_there : (wires : Wires) (nodes : List Node) (place : ℕ) (node : Node)
-    → length wires ≡ length nodes → slice_get nodes place ≡ Some node
-    → (row : WireRow) × (slice_get wires place ≡ Some row)
-row_there wires [] place node same at = cc at
+row_there : (pipes : Pipes) (nodes : List Node) (place : ℕ) (node : Node)
+    → length pipes ≡ length nodes → slice_get nodes place ≡ Some node
+    → (row : PipeRow) × (slice_get pipes place ≡ Some row)
+row_there pipes [] place node same at = cc at
 row_there [] (first ∷ nodes) place node same at = cc same
-row_there (row ∷ wires) (first ∷ nodes) zero node same at = (row, refl)
-row_there (row ∷ wires) (first ∷ nodes) (suc place) node same at =
-    row_there wires nodes place node (suc_inj same) at
+row_there (row ∷ pipes) (first ∷ nodes) zero node same at = (row, refl)
+row_there (row ∷ pipes) (first ∷ nodes) (suc place) node same at =
+    row_there pipes nodes place node (suc_inj same) at
 
-wire_here : (wires : Wires) (from to : ℕ) (wire : LinkWire) (row : WireRow)
-    → slice_get wires from ≡ Some row → wire_at (with_wire from to wire wires) from to ≡ wire
-wire_here wires from to wire row is =
-    ap (λ o. wire_at (option_map_or (λ r. slice_set wires from (put_in to wire r)) o wires) from to)
+pipe_here : (pipes : Pipes) (from to : ℕ) (pipe : LinkPipe) (row : PipeRow)
+    → slice_get pipes from ≡ Some row → pipe_at (with_pipe from to pipe pipes) from to ≡ pipe
+pipe_here pipes from to pipe row is =
+    ap (λ o. pipe_at (option_map_or (λ r. slice_set pipes from (put_in to pipe r)) o pipes) from to)
     is
-    ∙ ap (λ o. option_map_or (wire_in to) o new_wire)
-    (get_set wires from row (put_in to wire row) is)
-    ∙ wire_put row to wire to ∙ ap (λ b. cond b wire (wire_in to row)) (eq-eqb to to refl)
+    ∙ ap (λ o. option_map_or (pipe_in to) o new_pipe)
+    (get_set pipes from row (put_in to pipe row) is)
+    ∙ pipe_put row to pipe to ∙ ap (λ b. cond b pipe (pipe_in to row)) (eq-eqb to to refl)
 
-pub as_many : (nodes : List Node) (wires : Wires) → length wires ≡ length nodes
-    → length (rows_written nodes wires) ≡ length nodes
-as_many [] wires long = long
+pub as_many : (nodes : List Node) (pipes : Pipes) → length pipes ≡ length nodes
+    → length (rows_written nodes pipes) ≡ length nodes
+as_many [] pipes long = long
 as_many (node ∷ nodes) [] long = cc long
-as_many (node ∷ nodes) (row ∷ wires) long =
-    ap suc (as_many nodes wires (suc_inj long))
+as_many (node ∷ nodes) (row ∷ pipes) long =
+    ap suc (as_many nodes pipes (suc_inj long))
 
 pub map_length : (nodes : List Node) → length (map emptied_node nodes) ≡ length nodes
 map_length [] = refl
 map_length (node ∷ nodes) = ap suc (map_length nodes)
 
-module _ (net : Network) (wires : Wires) (lean : AreLean wires)
-    (long : length wires ≡ length net.nodes) (place to : ℕ) (node : Node)
+module _ (net : Network) (pipes : Pipes) (lean : AreLean pipes)
+    (long : length pipes ≡ length net.nodes) (place to : ℕ) (node : Node)
     (lines : List (List ℕ)) (line : List ℕ) (at : node_at net place ≡ Some node)
     (way : get node.queues to ≡ Some lines) where
   abbrev after_queued : Network
   after_queued = with_node place (left to (lines ++ line ∷ []) node) net
 
-  abbrev out : Wires
-  out = rows_written net.nodes wires
+  abbrev out : Pipes
+  out = rows_written net.nodes pipes
 
-  abbrev now : LinkWire
-  now = written line (wire_at out place to)
+  abbrev now : LinkPipe
+  now = written line (pipe_at out place to)
 
-  is_out : IsWritten net wires (queues_written net wires)
-  is_out = is_written net wires lean long
+  is_out : IsWritten net pipes (queues_written net pipes)
+  is_out = is_written net pipes lean long
 
-  there : wire_at (with_wire place to now out) place to ≡ now
-  there = let row = row_there out net.nodes place node (as_many net.nodes wires long) at in
-      wire_here out place to now row.0 row.1
+  there : pipe_at (with_pipe place to now out) place to ≡ now
+  there = let row = row_there out net.nodes place node (as_many net.nodes pipes long) at in
+      pipe_here out place to now row.0 row.1
 
   waited : waiting_at net place to ≡ lines
   waited = ap (λ o. option_map_or (λ s. waiting s to) o []) at ∙ ap (λ o. unwrap_or o []) way
 
-  at_it : (x y : ℕ) → x ≡ place → y ≡ to → wire_at (with_wire place to now out) x y
-      ≡ all_written (waiting_at after_queued x y) (wire_at wires x y)
+  at_it : (x y : ℕ) → x ≡ place → y ≡ to → pipe_at (with_pipe place to now out) x y
+      ≡ all_written (waiting_at after_queued x y) (pipe_at pipes x y)
   at_it x y one two =
-      ap (λ n. wire_at (with_wire place to now out) n y) one
-      ∙ ap (wire_at (with_wire place to now out) place) two ∙ there
-      ∙ ap (written line) (is_out.wires_are place to
-      ∙ ap (λ more. all_written more (wire_at wires place to)) waited)
-      ∙ sym (written_behind lines line (wire_at wires place to))
-      ∙ sym (ap (λ more. all_written more (wire_at wires place to))
+      ap (λ n. pipe_at (with_pipe place to now out) n y) one
+      ∙ ap (pipe_at (with_pipe place to now out) place) two ∙ there
+      ∙ ap (written line) (is_out.pipes_are place to
+      ∙ ap (λ more. all_written more (pipe_at pipes place to)) waited)
+      ∙ sym (written_behind lines line (pipe_at pipes place to))
+      ∙ sym (ap (λ more. all_written more (pipe_at pipes place to))
       (left_waits net place to node lines (lines ++ line ∷ []) at way))
-      ∙ sym (ap (λ n. all_written (waiting_at after_queued place n) (wire_at wires place n)) two)
-      ∙ sym (ap (λ n. all_written (waiting_at after_queued n y) (wire_at wires n y)) one)
+      ∙ sym (ap (λ n. all_written (waiting_at after_queued place n) (pipe_at pipes place n)) two)
+      ∙ sym (ap (λ n. all_written (waiting_at after_queued n y) (pipe_at pipes n y)) one)
 
   apart_to : (x y : ℕ) → y ≢ to → (b : Bool) → nat_eq x place ≡ b
       → waiting_at after_queued x y ≡ waiting_at net x y
@@ -204,48 +204,48 @@ module _ (net : Network) (wires : Wires) (lean : AreLean wires)
       left_elsewhere net place to node lines (lines ++ line ∷ []) at way x y
       (eqb-false x place other)
 
-  wire_is : (x y : ℕ) → wire_at (with_wire place to now out) x y
-      ≡ all_written (waiting_at after_queued x y) (wire_at wires x y)
-  wire_is x y = by (wire_set place to now out x y)
+  pipe_is : (x y : ℕ) → pipe_at (with_pipe place to now out) x y
+      ≡ all_written (waiting_at after_queued x y) (pipe_at pipes x y)
+  pipe_is x y = by (pipe_set place to now out x y)
     where
-      by : IsSetAt place to now out x y → wire_at (with_wire place to now out) x y
-          ≡ all_written (waiting_at after_queued x y) (wire_at wires x y)
+      by : IsSetAt place to now out x y → pipe_at (with_pipe place to now out) x y
+          ≡ all_written (waiting_at after_queued x y) (pipe_at pipes x y)
       by (it one two is) = at_it x y one two
       by (nowhere one two is was) = at_it x y one two
       by (other_from apart is) =
-          is ∙ is_out.wires_are x y
-          ∙ sym (ap (λ more. all_written more (wire_at wires x y))
+          is ∙ is_out.pipes_are x y
+          ∙ sym (ap (λ more. all_written more (pipe_at pipes x y))
           (left_elsewhere net place to node lines (lines ++ line ∷ []) at way x y
           (eqb-false x place apart)))
       by (other_to apart is) =
-          is ∙ is_out.wires_are x y
-          ∙ sym (ap (λ more. all_written more (wire_at wires x y))
+          is ∙ is_out.pipes_are x y
+          ∙ sym (ap (λ more. all_written more (pipe_at pipes x y))
           (apart_to x y (eqb-false y to apart) (nat_eq x place) refl))
 
-  is_queued : IsWritten after_queued wires
-      (record { network = emptied net; wires = with_wire place to now out })
+  is_queued : IsWritten after_queued pipes
+      (record { network = emptied net; pipes = with_pipe place to now out })
   is_queued = record {
     network_is = sym (left_emptied net place to node lines (lines ++ line ∷ []) at way);
-    wires_are = wire_is;
-    rows = rows_stay place to now out ∙ as_many net.nodes wires long ∙ sym (map_length net.nodes);
+    pipes_are = pipe_is;
+    rows = rows_stay place to now out ∙ as_many net.nodes pipes long ∙ sym (map_length net.nodes);
     lean = lean_with place to now out is_out.lean;
   }
 
-  long_queued : length wires ≡ length after_queued.nodes
+  long_queued : length pipes ≡ length after_queued.nodes
   long_queued = long ∙ sym (length_set net.nodes place (left to (lines ++ line ∷ []) node))
 
-module _ (same : SameWires) (net : Network) (wires : Wires) (lean : AreLean wires)
-    (long : length wires ≡ length net.nodes)
+module _ (same : SamePipes) (net : Network) (pipes : Pipes) (lean : AreLean pipes)
+    (long : length pipes ≡ length net.nodes)
     (place to : ℕ) (text : List ℕ) where
   abbrev at_once : ByteNetwork
   at_once = record {
     network = emptied net;
-    wires = written_at place to (line_body text) (rows_written net.nodes wires);
+    pipes = written_at place to (line_body text) (rows_written net.nodes pipes);
   }
 
   -- it waits on a way, and is written then
   pub queued_written : has_way net place to ≡ true
-      → queues_written (node_changed_at place (line_queued to text) net) wires ≡ at_once
+      → queues_written (node_changed_at place (line_queued to text) net) pipes ≡ at_once
   queued_written has = by_node (node_at net place) refl has
     where
       by_way : (node : Node) → node_at net place ≡ Some node → (o : Option (List (List ℕ)))
@@ -253,19 +253,19 @@ module _ (same : SameWires) (net : Network) (wires : Wires) (lean : AreLean wire
           (option_map_or (λ lines. record node {
             queues = insert node.queues to
                 (lines ++ line_body text ∷ []);
-          }) o node) net) wires ≡ at_once
+          }) o node) net) pipes ≡ at_once
       by_way node at None way there_is = cc there_is
       by_way node at (Some lines) way there_is =
           let after =
-          after_queued net wires lean long place to node lines (line_body text) at way in
-          same_written same after wires (queues_written after wires) at_once
-          (is_written after wires lean
-          (long_queued net wires lean long place to node lines (line_body text) at way))
-          (is_queued net wires lean long place to node lines (line_body text) at way)
+          after_queued net pipes lean long place to node lines (line_body text) at way in
+          same_written same after pipes (queues_written after pipes) at_once
+          (is_written after pipes lean
+          (long_queued net pipes lean long place to node lines (line_body text) at way))
+          (is_queued net pipes lean long place to node lines (line_body text) at way)
 
       by_node : (o : Option Node) → node_at net place ≡ o → is_some
           (option_and_then (λ (node : Node). get node.queues to) o) ≡ true → queues_written
-          (option_map_or (λ node. with_node place (line_queued to text node) net) o net) wires
+          (option_map_or (λ node. with_node place (line_queued to text node) net) o net) pipes
           ≡ at_once
       by_node None at there_is = cc there_is
       by_node (Some node) at there_is = by_way node at (get node.queues to) refl there_is
@@ -331,44 +331,44 @@ behind_waits ahead net from to none =
     by_node None nothing = sym (append-nil (ahead from to) ∙ nothing refl)
     by_node (Some node) nothing = by_way node (get node.queues to) refl nothing
 
-module _ (same : SameWires) (ahead : Ahead) (net : Network) (wires out : Wires)
-    (lean : AreLean wires) (out_lean : AreLean out)
-    (long : length wires ≡ length net.nodes) (out_long : length out ≡ length net.nodes)
+module _ (same : SamePipes) (ahead : Ahead) (net : Network) (pipes out : Pipes)
+    (lean : AreLean pipes) (out_lean : AreLean out)
+    (long : length pipes ≡ length net.nodes) (out_long : length out ≡ length net.nodes)
     (none : (from to : ℕ) → has_way net from to ≡ false → ahead from to ≡ [])
     (out_is : (from to : ℕ)
-    → wire_at out from to ≡ all_written (ahead from to) (wire_at wires from to)) where
-  is_behind : IsWritten (net_behind ahead net) wires (queues_written net out)
+    → pipe_at out from to ≡ all_written (ahead from to) (pipe_at pipes from to)) where
+  is_behind : IsWritten (net_behind ahead net) pipes (queues_written net out)
   is_behind =
       let written = is_written net out out_lean out_long in
       record {
         network_is =
             sym (ap (λ nodes. record net { nodes = nodes }) (all_emptied_behind ahead net.nodes));
-        wires_are = λ from to.
-            written.wires_are from to ∙ ap (all_written (waiting_at net from to)) (out_is from to)
-            ∙ sym (all_behind (ahead from to) (waiting_at net from to) (wire_at wires from to))
-            ∙ sym (ap (λ lines. all_written lines (wire_at wires from to))
+        pipes_are = λ from to.
+            written.pipes_are from to ∙ ap (all_written (waiting_at net from to)) (out_is from to)
+            ∙ sym (all_behind (ahead from to) (waiting_at net from to) (pipe_at pipes from to))
+            ∙ sym (ap (λ lines. all_written lines (pipe_at pipes from to))
             (behind_waits ahead net from to (none from to)));
         rows = written.rows;
         lean = written.lean;
       }
 
   -- what is ahead is written first, and the rest then
-  written_ahead : queues_written (net_behind ahead net) wires ≡ queues_written net out
+  written_ahead : queues_written (net_behind ahead net) pipes ≡ queues_written net out
   written_ahead =
-      same_written same (net_behind ahead net) wires (queues_written (net_behind ahead net) wires)
+      same_written same (net_behind ahead net) pipes (queues_written (net_behind ahead net) pipes)
       (queues_written net out)
-      (is_written (net_behind ahead net) wires lean (long ∙ sym (nodes_counted ahead net.nodes)))
+      (is_written (net_behind ahead net) pipes lean (long ∙ sym (nodes_counted ahead net.nodes)))
       is_behind
 
-module _ (same : SameWires) (place : ℕ) (read_event : ReadEvent) (progress : Progress Network)
-    (wires : Wires)
-    (lean : AreLean wires)
-    (long : length wires ≡ length progress.state.nodes) where
+module _ (same : SamePipes) (place : ℕ) (read_event : ReadEvent) (progress : Progress Network)
+    (pipes : Pipes)
+    (lean : AreLean pipes)
+    (long : length pipes ≡ length progress.state.nodes) where
   abbrev waiting_now : Ahead
   waiting_now from to = waiting_at progress.state from to
 
   abbrev start : Progress Network
-  start = progress_without_wires (progress_written progress wires)
+  start = progress_without_pipes (progress_written progress pipes)
 
   abbrev last : Progress Network
   last = node_asked place read_event start
@@ -382,38 +382,38 @@ module _ (same : SameWires) (place : ℕ) (read_event : ReadEvent) (progress : P
   asked_so =
       ap (node_asked place read_event) was_behind ∙ asked-behind waiting_now place read_event start
 
-  long_now : length wires ≡ length last.state.nodes
+  long_now : length pipes ≡ length last.state.nodes
   long_now = long ∙ sym (map_length progress.state.nodes) ∙ sym (asked_stays place read_event start)
 
   -- They are written before it is asked or with what it puts out: it is one.
-  pub written_between : asked_out place read_event (progress_written progress wires)
-      ≡ progress_written (node_asked place read_event progress) wires
+  pub written_between : asked_out place read_event (progress_written progress pipes)
+      ≡ progress_written (node_asked place read_event progress) pipes
   written_between =
-      let written = is_written progress.state wires lean long in
-      sym (ap (λ (c : Progress Network). progress_written c wires) asked_so
+      let written = is_written progress.state pipes lean long in
+      sym (ap (λ (c : Progress Network). progress_written c pipes) asked_so
       ∙ ap (λ (net : ByteNetwork). record { state = net; out = last.out })
-      (written_ahead same waiting_now last.state wires
-      (rows_written progress.state.nodes wires) lean written.lean long_now
-      (as_many progress.state.nodes wires long ∙ sym long ∙ long_now)
+      (written_ahead same waiting_now last.state pipes
+      (rows_written progress.state.nodes pipes) lean written.lean long_now
+      (as_many progress.state.nodes pipes long ∙ sym long ∙ long_now)
       (λ from to none. none_there progress.state from to
       (sym (emptied_ways progress.state from to) ∙ sym (asked_keeps place read_event start from to)
       ∙ none))
-      written.wires_are))
+      written.pipes_are))
 
 -- ---- lines that are heard in turn
 
-module _ (same : SameWires) (from to : ℕ) (wires : Wires) (lean : AreLean wires) where
+module _ (same : SamePipes) (from to : ℕ) (pipes : Pipes) (lean : AreLean pipes) where
   one_heard : (progress : Progress Network) (line : List ℕ)
-      → length wires ≡ length progress.state.nodes
-      → heard_out from to (progress_written progress wires) line ≡ progress_written
-      (heard from to progress line) wires
+      → length pipes ≡ length progress.state.nodes
+      → heard_out from to (progress_written progress pipes) line ≡ progress_written
+      (heard from to progress line) pipes
   one_heard progress line long = written_between same to (link_says from (read_of line))
-      (record progress { state = line_counted progress.state }) wires lean long
+      (record progress { state = line_counted progress.state }) pipes lean long
 
   pub all_heard_written : (lines : List (List ℕ)) (progress : Progress Network)
-      → length wires ≡ length progress.state.nodes → all_heard_out from to
-      (progress_written progress wires) lines ≡ progress_written
-      (all_heard from to progress lines) wires
+      → length pipes ≡ length progress.state.nodes → all_heard_out from to
+      (progress_written progress pipes) lines ≡ progress_written
+      (all_heard from to progress lines) pipes
   all_heard_written [] progress long = refl
   all_heard_written (line ∷ lines) progress long =
       ap (λ c. all_heard_out from to c lines) (one_heard progress line long)

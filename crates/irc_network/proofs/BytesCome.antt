@@ -8,8 +8,8 @@ use Rattle.std.specs.List.{AllByRecursion}
 use Rattle.std.specs.Option.{option_and_then, option_map_or}
 use Rattle.irc_line.specs.Lines.{IsLine}
 use Rattle.irc_network.specs.Network.{Progress, Network, Receipt, Node, node_at, waiting, heard}
-use Rattle.irc_wires.specs.Wires.{LinkWire, Wires, advanced, lines_to_come, wire_at, with_wire}
-use Rattle.irc_wires.specs.Lemmas.PutWires.{IsSetAt, it, nowhere, other_from, other_to, wire_set}
+use Rattle.irc_pipes.specs.Pipes.{LinkPipe, Pipes, advanced, lines_to_come, pipe_at, with_pipe}
+use Rattle.irc_pipes.specs.Lemmas.PutPipes.{IsSetAt, it, nowhere, other_from, other_to, pipe_set}
 use Rattle.irc_network.specs.Behind.{Ahead, net_behind, progress_behind, emptied, node_behind}
 use Rattle.irc_network.specs.ByteNetwork.{ByteNetwork, all_heard, all_written, bytes_come}
 use Rattle.irc_network.specs.ByteNetwork.{completed_in, net_in_lines, lines_ahead, waiting_at}
@@ -26,9 +26,9 @@ use Rattle.irc_network.specs.Lemmas.Emptied.{emptied_waits, emptied_ways}
 use Rattle.irc_network.specs.Lemmas.RowsWritten.{is_written, lean_with}
 use Rattle.irc_network.specs.Lemmas.Ways.{waiting_behind}
 use Rattle.irc_network.proofs.WaysStay.{heard_ways}
-use Rattle.irc_network.proofs.WireLines.{AreWritten, IsKnownOfStreams, advanced_is_whole}
-use Rattle.irc_network.proofs.WireLines.{all_are_written, lines_parted, new_has_none}
-use Rattle.irc_network.proofs.WireLines.{new_is_whole}
+use Rattle.irc_network.proofs.PipeLines.{AreWritten, IsKnownOfStreams, advanced_is_whole}
+use Rattle.irc_network.proofs.PipeLines.{all_are_written, lines_parted, new_has_none}
+use Rattle.irc_network.proofs.PipeLines.{new_is_whole}
 use Rattle.irc_network.specs.Lemmas.NewFramer.{new_is_real}
 
 -- ---- lines that are ahead on one way
@@ -106,24 +106,24 @@ module _ (from to : ℕ) (ahead : Ahead) (rest : List (List ℕ)) where
 
 module _ (known : IsKnownOfStreams) (old : ByteNetwork) (from to count : ℕ) (before : List Receipt)
     (whole : IsWholeNet old) where
-  abbrev wire : LinkWire
-  wire = wire_at old.wires from to
+  abbrev pipe : LinkPipe
+  pipe = pipe_at old.pipes from to
 
   abbrev lines : List (List ℕ)
   lines = completed_in old from to count
 
   abbrev rest : List (List ℕ)
-  rest = lines_to_come (advanced count wire)
+  rest = lines_to_come (advanced count pipe)
 
   abbrev ahead : Ahead
-  ahead = lines_ahead old.wires
+  ahead = lines_ahead old.pipes
 
   abbrev start : Progress Network
   start = record { state = old.network; out = before }
 
-  -- the wires once they have come
-  abbrev between : Wires
-  between = with_wire from to (advanced count wire) old.wires
+  -- the pipes once they have come
+  abbrev between : Pipes
+  between = with_pipe from to (advanced count pipe) old.pipes
 
   -- what is ahead then
   abbrev now : Ahead
@@ -133,7 +133,7 @@ module _ (known : IsKnownOfStreams) (old : ByteNetwork) (from to count : ℕ) (b
   last = all_heard from to start lines
 
   parted : ahead from to ≡ lines ++ rest
-  parted = lines_parted known wire (whole.whole from to) count
+  parted = lines_parted known pipe (whole.whole from to) count
 
   front_is : (x y : ℕ) → ahead_on from to (lines ++ rest) ahead x y ≡ ahead x y
   front_is x y = by (nat_eq x from) (nat_eq y to) refl refl
@@ -170,43 +170,43 @@ module _ (known : IsKnownOfStreams) (old : ByteNetwork) (from to count : ℕ) (b
           (progress_behind (ahead_on from to rest ahead) (all_heard from to start ls)))
           (sym (none_of_both lines rest (sym parted ∙ whole.ways from to none)).0) no_more
 
-  -- ---- the wires before what is put out is written
+  -- ---- the pipes before what is put out is written
 
-  pub record IsAhead (x y : ℕ) (w : LinkWire) : Type 0 where
+  pub record IsAhead (x y : ℕ) (w : LinkPipe) : Type 0 where
     pub lines_come : lines_to_come w ≡ now x y
     pub ends_lines : IsWhole w
 
   there_now : (x y : ℕ) → x ≡ from → y ≡ to → now x y ≡ rest
   there_now x y one two = ap (λ n. now n y) one ∙ ap (now from) two ∙ on_it from to rest ahead
 
-  old_wire : (x y : ℕ) (w : LinkWire) → w ≡ wire_at old.wires x y → now x y ≡ ahead x y
+  old_pipe : (x y : ℕ) (w : LinkPipe) → w ≡ pipe_at old.pipes x y → now x y ≡ ahead x y
       → IsAhead x y w
-  old_wire x y w is alike =
+  old_pipe x y w is alike =
       subst (IsAhead x y) (sym is) (record { lines_come = sym alike; ends_lines = whole.whole x y })
 
-  wire_ahead : (x y : ℕ) → IsAhead x y (wire_at between x y)
-  wire_ahead x y = by (wire_set from to (advanced count wire) old.wires x y)
+  pipe_ahead : (x y : ℕ) → IsAhead x y (pipe_at between x y)
+  pipe_ahead x y = by (pipe_set from to (advanced count pipe) old.pipes x y)
     where
-      by : IsSetAt from to (advanced count wire) old.wires x y
-          → IsAhead x y (wire_at (with_wire from to (advanced count wire) old.wires) x y)
+      by : IsSetAt from to (advanced count pipe) old.pipes x y
+          → IsAhead x y (pipe_at (with_pipe from to (advanced count pipe) old.pipes) x y)
       by (it one two is) = record {
         lines_come = ap lines_to_come is ∙ sym (there_now x y one two);
         ends_lines =
-            subst IsWhole (sym is) (advanced_is_whole known wire (whole.whole from to) count);
+            subst IsWhole (sym is) (advanced_is_whole known pipe (whole.whole from to) count);
       }
       by (nowhere one two is was) = record {
         lines_come =
-            let none = ap lines_to_come (ap (λ n. wire_at old.wires n to) (sym one)
-            ∙ ap (wire_at old.wires x) (sym two) ∙ was)
+            let none = ap lines_to_come (ap (λ n. pipe_at old.pipes n to) (sym one)
+            ∙ ap (pipe_at old.pipes x) (sym two) ∙ was)
             ∙ new_has_none known new_is_real in
             ap lines_to_come is ∙ new_has_none known new_is_real
             ∙ sym (there_now x y one two ∙ (none_of_both lines rest (sym parted ∙ none)).1);
         ends_lines = subst IsWhole (sym is) (new_is_whole known new_is_real);
       }
       by (other_from apart is) =
-          old_wire x y _ is (ap (λ a. if_both a (nat_eq y to) rest (ahead x y)) apart)
+          old_pipe x y _ is (ap (λ a. if_both a (nat_eq y to) rest (ahead x y)) apart)
       by (other_to apart is) =
-          old_wire x y _ is (ap (λ b. if_both (nat_eq x from) b rest (ahead x y)) apart
+          old_pipe x y _ is (ap (λ b. if_both (nat_eq x from) b rest (ahead x y)) apart
           ∙ not_to (nat_eq x from) rest (ahead x y))
 
   -- ---- what is put out is lines
@@ -235,24 +235,24 @@ module _ (known : IsKnownOfStreams) (old : ByteNetwork) (from to count : ℕ) (b
 
   module _ (new : ByteNetwork) (written : IsWritten last.state between new)
       (are : AreLinesWaiting (net_behind now last.state)) where
-    wire_is : (x y : ℕ)
-        → wire_at new.wires x y ≡ all_written (waiting_at last.state x y) (wire_at between x y)
-    wire_is x y = written.wires_are x y
+    pipe_is : (x y : ℕ)
+        → pipe_at new.pipes x y ≡ all_written (waiting_at last.state x y) (pipe_at between x y)
+    pipe_is x y = written.pipes_are x y
 
-    are_written : (x y : ℕ) → AreWritten known (wire_at between x y) (waiting_at last.state x y)
-    are_written x y = all_are_written known (wire_at between x y) (waiting_at last.state x y)
-        (wire_ahead x y).ends_lines (put_out_are are x y)
+    are_written : (x y : ℕ) → AreWritten known (pipe_at between x y) (waiting_at last.state x y)
+    are_written x y = all_are_written known (pipe_at between x y) (waiting_at last.state x y)
+        (pipe_ahead x y).ends_lines (put_out_are are x y)
 
-    lines_are : (x y : ℕ) → lines_ahead new.wires x y ≡ now x y ++ waiting_at last.state x y
-    lines_are x y = ap lines_to_come (wire_is x y) ∙ (are_written x y).lines_are
-        ∙ ap (λ front. front ++ waiting_at last.state x y) (wire_ahead x y).lines_come
+    lines_are : (x y : ℕ) → lines_ahead new.pipes x y ≡ now x y ++ waiting_at last.state x y
+    lines_are x y = ap lines_to_come (pipe_is x y) ∙ (are_written x y).lines_are
+        ∙ ap (λ front. front ++ waiting_at last.state x y) (pipe_ahead x y).lines_come
 
     network_is : new.network ≡ emptied last.state
     network_is = written.network_is
 
     after_is : net_in_lines new ≡ net_behind now last.state
-    after_is = ap (net_behind (lines_ahead new.wires)) network_is
-        ∙ refilled now (lines_ahead new.wires) last.state lines_are
+    after_is = ap (net_behind (lines_ahead new.pipes)) network_is
+        ∙ refilled now (lines_ahead new.pipes) last.state lines_are
 
     all_ways : (ls : List (List ℕ)) (progress : Progress Network) (x y : ℕ)
         → has_way (all_heard from to progress ls).state x y ≡ has_way progress.state x y
@@ -285,7 +285,7 @@ module _ (known : IsKnownOfStreams) (old : ByteNetwork) (from to count : ℕ) (b
         rows = written.rows;
         lean = written.lean;
       };
-      whole = λ x y. subst IsWhole (sym (wire_is x y)) (are_written x y).whole;
+      whole = λ x y. subst IsWhole (sym (pipe_is x y)) (are_written x y).whole;
       ways = λ x y none.
           let before = sym (same_ways_now x y) ∙ none in
           lines_are x y ∙ ap (λ front. front ++ waiting_at last.state x y) (none_now x y before)
@@ -295,7 +295,7 @@ module _ (known : IsKnownOfStreams) (old : ByteNetwork) (from to count : ℕ) (b
   all_is_written : IsWritten last.state between (queues_written last.state between)
   all_is_written =
       is_written last.state between
-      (lean_with from to (advanced count wire) old.wires whole.tidy.lean)
+      (lean_with from to (advanced count pipe) old.pipes whole.tidy.lean)
       (rows_after_lines old from to count lines before last between whole.tidy.rows refl refl)
 
   as_lines : ComeAsLines from to count (record { state = old; out = before })

@@ -4,10 +4,10 @@ use Rattle.std.proofs.Common.{refl, sym, ◌∙◌, ap}
 use Rattle.std.specs.Option.{option_map_or}
 use Rattle.irc_network.specs.Network.{Progress, done_by, given}
 use Rattle.irc_world.specs.Stepping.{Item}
-use Rattle.irc_wires.specs.Wires.{Direction, SameWires, advanced, first_direction, wire_at}
+use Rattle.irc_pipes.specs.Pipes.{Direction, SamePipes, advanced, first_direction, pipe_at}
 use Rattle.irc_network.specs.ByteNetwork.{ByteNetwork, bytes_come, completed_in}
-use Rattle.irc_network.specs.ByteNetwork.{progress_without_wires, progress_written, item_given}
-use Rattle.irc_network.specs.ByteNetwork.{wires_after, wires_come}
+use Rattle.irc_network.specs.ByteNetwork.{progress_without_pipes, progress_written, item_given}
+use Rattle.irc_network.specs.ByteNetwork.{pipes_after, pipes_come}
 use Rattle.irc_network.specs.Lemmas.Rows.{rows_stay}
 use Rattle.irc_network.specs.Lemmas.RowsWritten.{lean_with}
 use Rattle.irc_network.specs.Loops.Progress.{all_heard_out}
@@ -30,7 +30,7 @@ byte_kept item progress = record progress {
 }
 
 pub was_given : (old : ByteNetwork) (item : Item) (done : Progress ByteNetwork)
-    → done ≡ progress_written (done_by item old.network) (wires_after old.network item old.wires)
+    → done ≡ progress_written (done_by item old.network) (pipes_after old.network item old.pipes)
     → byte_kept item done ≡ item_given item old
 unfolding given item_given
 was_given old item done is = ap (byte_kept item) is
@@ -39,18 +39,18 @@ was_given old item done is = ap (byte_kept item) is
 
 abbrev pub come_in : ℕ → ℕ → ℕ → ByteNetwork → ByteNetwork
 come_in from to count net =
-    record { network = net.network; wires = wires_come net from to count }
+    record { network = net.network; pipes = pipes_come net from to count }
 
 pub come_tidy : (from to count : ℕ) (net : ByteNetwork) → IsTidy net
     → IsTidy (come_in from to count net)
 come_tidy from to count net tidy = record {
   quiet = tidy.quiet;
-  rows = rows_stay from to (advanced count (wire_at net.wires from to)) net.wires ∙ tidy.rows;
-  lean = lean_with from to (advanced count (wire_at net.wires from to)) net.wires tidy.lean;
+  rows = rows_stay from to (advanced count (pipe_at net.pipes from to)) net.pipes ∙ tidy.rows;
+  lean = lean_with from to (advanced count (pipe_at net.pipes from to)) net.pipes tidy.lean;
 }
 
 -- what they complete is heard in turn, and what servers put out upon it is written at once
-pub have_come : SameWires → (from to count : ℕ) (old : Progress ByteNetwork) → IsTidy old.state
+pub have_come : SamePipes → (from to count : ℕ) (old : Progress ByteNetwork) → IsTidy old.state
     → all_heard_out from to (record old { state = come_in from to count old.state })
     (completed_in old.state from to count) ≡ bytes_come from to count old
 unfolding bytes_come
@@ -59,17 +59,17 @@ have_come same from to count old tidy =
     let lines = completed_in old.state from to count in
     ap (λ progress. all_heard_out from to progress lines)
     (sym (tidy_alone (record old { state = come_in from to count old.state }) now))
-    ∙ all_heard_written same from to (wires_come old.state from to count) now.lean lines
-    (progress_without_wires old) now.rows
+    ∙ all_heard_written same from to (pipes_come old.state from to count) now.lean lines
+    (progress_without_pipes old) now.rows
 
 -- ---- a turn
 
-pub no_turn : (old : Progress ByteNetwork) → None ≡ first_direction old.state.wires
+pub no_turn : (old : Progress ByteNetwork) → None ≡ first_direction old.state.pipes
     → TurnsBy None old old
 no_turn old none = (ap (option_map (turn_in old)) (sym none), refl)
 
 pub one_turn : (old new : Progress ByteNetwork) (d : Direction) (count lines : ℕ)
-    → Some d ≡ first_direction old.state.wires
+    → Some d ≡ first_direction old.state.pipes
     → count ≡ bytes_in_turn old.state d → new ≡ bytes_come d.from d.to count old
     → lines ≡ length (completed_in old.state d.from d.to count) → TurnsBy (Some lines) old new
 one_turn old new d count lines first count_is new_is lines_are = (

@@ -3,7 +3,7 @@ use Rattle.std.proofs.Common.{◌≡◌, ℕ, zero, suc, ◌+◌, ◌≤◌, ◌
 use Rattle.std.proofs.Common.{◌++◌, drop, length, refl, sym, ◌∙◌, ap, arith, if◌then◌else◌}
 use Rattle.std.proofs.Math.Seq.{drop-nil}
 use Rattle.irc_line.specs.Bytes.{line_feed}
-use Rattle.irc_wires.specs.Wires.{is_none, through_line_feed}
+use Rattle.irc_pipes.specs.Pipes.{is_none, through_line_feed}
 use Rattle.irc_network.specs.Whole.{ends_in_feed}
 
 -- ---- the last byte

@@ -17,9 +17,9 @@ use Rattle.irc_names.specs.Lemmas.PlainFacts.{is_true}
 use Rattle.irc_stage.specs.Lemmas.Numbers.{one_number, same_number, same_number-refl}
 use Rattle.irc_network.specs.Network.{Node, direction, first_among}
 use Rattle.irc_network.specs.Network.{first_way, is_nothing, waiting, waits}
-use Rattle.irc_wires.specs.Wires.{Direction, LinkWire, Wires, first_from, first_in, has_byte}
-use Rattle.irc_wires.specs.Wires.{new_wire}
-use Rattle.irc_wires.specs.Wires.{wire_at, wire_in}
+use Rattle.irc_pipes.specs.Pipes.{Direction, LinkPipe, Pipes, first_from, first_in, has_byte}
+use Rattle.irc_pipes.specs.Pipes.{new_pipe}
+use Rattle.irc_pipes.specs.Pipes.{pipe_at, pipe_in}
 use Rattle.irc_network.specs.Behind.{Ahead, node_behind, nodes_behind}
 use Rattle.irc_network.specs.Lemmas.Ways.{get-each_way, none_waiting, waiting_behind}
 
@@ -145,15 +145,15 @@ module _ {X : Type 0} where
   keys_rise : (m : FinMap nat_cmp X) → Rise (keys m)
   keys_rise m = rise_of (entries m) (is_true (is_sorted nat_cmp (entries m)) (entries_sorted m))
 
--- ---- a row of wires, and the node that they are from
+-- ---- a row of pipes, and the node that they are from
 
 some_front : (front lines : List (List ℕ)) → is_nothing front ≡ false
     → not (is_nothing (front ++ lines)) ≡ true
 some_front [] lines some = cc some
 some_front (first ∷ front) lines some = refl
 
-module _ (row : FinMap nat_cmp LinkWire) (node : Node) (ahead : ℕ → List (List ℕ))
-    (only : (x : ℕ) → has_byte (wire_in x row) ≡ false → ahead x ≡ [])
+module _ (row : FinMap nat_cmp LinkPipe) (node : Node) (ahead : ℕ → List (List ℕ))
+    (only : (x : ℕ) → has_byte (pipe_in x row) ≡ false → ahead x ≡ [])
     (quiet : (x : ℕ) → waiting node x ≡ []) where
   none_waits : (x : ℕ) → ahead x ≡ [] → waits (node_behind ahead node) x ≡ false
   none_waits x none = by (get node.queues x) refl
@@ -176,19 +176,19 @@ module _ (row : FinMap nat_cmp LinkWire) (node : Node) (ahead : ℕ → List (Li
       by (Some lines) at is = ap (λ all. not (is_nothing all))
           (waiting_behind ahead node x lines at) ∙ some_front (ahead x) lines some
 
-  -- no byte is on a wire that the row has not
-  not_there : (x : ℕ) → is_some (get row x) ≡ false → has_byte (wire_in x row) ≡ false
+  -- no byte is on a pipe that the row has not
+  not_there : (x : ℕ) → is_some (get row x) ≡ false → has_byte (pipe_in x row) ≡ false
   not_there x none = by (get row x) none
     where
-      by : (o : Option LinkWire) → is_some o ≡ false → has_byte (unwrap_or o new_wire) ≡ false
+      by : (o : Option LinkPipe) → is_some o ≡ false → has_byte (unwrap_or o new_pipe) ≡ false
       by None is = refl
-      by (Some wire) is = cc is
+      by (Some pipe) is = cc is
 
-  no_byte : (x : ℕ) → (has_number x (keys row) ≡ true → has_byte (wire_in x row) ≡ false)
-      → has_byte (wire_in x row) ≡ false
+  no_byte : (x : ℕ) → (has_number x (keys row) ≡ true → has_byte (pipe_in x row) ≡ false)
+      → has_byte (pipe_in x row) ≡ false
   no_byte x if_there = by (is_some (get row x)) refl
     where
-      by : (b : Bool) → is_some (get row x) ≡ b → has_byte (wire_in x row) ≡ false
+      by : (b : Bool) → is_some (get row x) ≡ b → has_byte (pipe_in x row) ≡ false
       by true is = if_there (sym (contains_key-keys row x) ∙ is)
       by false is = not_there x is
 
@@ -196,7 +196,7 @@ module _ (row : FinMap nat_cmp LinkWire) (node : Node) (ahead : ℕ → List (Li
   no_first_way none =
       none_found (waits (node_behind ahead node)) (keys (node_behind ahead node).queues) (λ x.
       none_waits x
-      (only x (no_byte x (none_passes (λ to. has_byte (wire_in to row)) (keys row) none x))))
+      (only x (no_byte x (none_passes (λ to. has_byte (pipe_in to row)) (keys row) none x))))
 
   first_way_is : (to : ℕ) → first_in row ≡ Some to → is_some (get node.queues to) ≡ true
       → is_nothing (ahead to) ≡ false → first_way (node_behind ahead node) ≡ Some to
@@ -208,7 +208,7 @@ module _ (row : FinMap nat_cmp LinkWire) (node : Node) (ahead : ℕ → List (Li
             ∙ still_way (get node.queues to) ∙ way;
         passes = one_waits to way some;
         before = λ x less there.
-            none_waits x (only x (no_byte x ((is_first (λ y. has_byte (wire_in y row)) (keys row) to
+            none_waits x (only x (no_byte x ((is_first (λ y. has_byte (pipe_in y row)) (keys row) to
             (keys_rise row) found).before x less)));
       })
     where
@@ -227,25 +227,25 @@ pub record HasAhead (at : Option Node) (to : ℕ) (lines : List (List ℕ)) : Ty
 abbrev first_behind : ℕ → Ahead → List Node → Option Direction
 first_behind place ahead nodes = first_among (place + 1) (nodes_behind (λ n. ahead (suc n)) nodes)
 
-pub first_is : (place : ℕ) (wires : Wires) (nodes : List Node)
-    (ahead : Ahead) (d : Direction) → length wires ≡ length nodes
-    → ((x to : ℕ) → has_byte (wire_at wires x to) ≡ false → ahead x to ≡ [])
+pub first_is : (place : ℕ) (pipes : Pipes) (nodes : List Node)
+    (ahead : Ahead) (d : Direction) → length pipes ≡ length nodes
+    → ((x to : ℕ) → has_byte (pipe_at pipes x to) ≡ false → ahead x to ≡ [])
     → ((x to : ℕ) → option_map_or (λ node. waiting node to) (slice_get nodes x) [] ≡ [])
     → ((x : ℕ) → d.from ≡ place + x → HasAhead (slice_get nodes x) d.to (ahead x d.to))
-    → first_from place wires ≡ Some d
+    → first_from place pipes ≡ Some d
     → first_among place (nodes_behind ahead nodes) ≡ Some (direction d.from d.to)
 first_is place [] nodes ahead d rows only quiet has found = cc found
-first_is place (row ∷ wires) [] ahead d rows only quiet has found = absurd (omega (arith, rows))
-first_is place (row ∷ wires) (node ∷ nodes) ahead d rows only quiet has found =
+first_is place (row ∷ pipes) [] ahead d rows only quiet has found = absurd (omega (arith, rows))
+first_is place (row ∷ pipes) (node ∷ nodes) ahead d rows only quiet has found =
     by (first_in row) refl
-    (first_is (place + 1) wires nodes (λ n. ahead (suc n)) d (omega (arith, rows))
+    (first_is (place + 1) pipes nodes (λ n. ahead (suc n)) d (omega (arith, rows))
     (λ x. only (suc x)) (λ x. quiet (suc x))
     (λ x at. has (suc x) (omega (arith, at))))
     found
   where
-    by : (o : Option ℕ) → first_in row ≡ o → (first_from (place + 1) wires ≡ Some d
+    by : (o : Option ℕ) → first_in row ≡ o → (first_from (place + 1) pipes ≡ Some d
         → first_behind place ahead nodes ≡ Some (direction d.from d.to)) → option_map_or
-        (λ to. Some (record { from = place; to = to })) o (first_from (place + 1) wires) ≡ Some d
+        (λ to. Some (record { from = place; to = to })) o (first_from (place + 1) pipes) ≡ Some d
         → option_map_or (λ to. Some (direction place to)) (first_way (node_behind (ahead 0) node))
         (first_behind place ahead nodes)
         ≡ Some (direction d.from d.to)

@@ -41,7 +41,7 @@ none_behind {progress = progress} {last = last} {new = new} goes taken none =
 
 pub record GoesOn (old new : Progress ByteNetwork) : Type 0 where
   pub tidy : IsTidy new.state
-  pub fewer : bytes_on_way new.state.wires < bytes_on_way old.state.wires
+  pub fewer : bytes_on_way new.state.pipes < bytes_on_way old.state.pipes
 
 pub goes_on : (old new : Progress ByteNetwork) → IsTidy old.state → turn_taken old ≡ Some new
     → lines_in_turn old.state ≡ 0 → GoesOn old new
@@ -49,9 +49,9 @@ goes_on old new tidy taken none =
     let moves = moves_alone old new tidy taken none in
     record {
       tidy = moves.tidy;
-      fewer = subst (λ (progress : Progress ByteNetwork). bytes_on_way progress.state.wires
-          < bytes_on_way old.state.wires) (sym moves.new_is)
-          (fewer_bytes old.state.wires moves.way moves.is_first);
+      fewer = subst (λ (progress : Progress ByteNetwork). bytes_on_way progress.state.pipes
+          < bytes_on_way old.state.pipes) (sym moves.new_is)
+          (fewer_bytes old.state.pipes moves.way moves.is_first);
     }
 
 -- ---- what a call has done by a turn behind turns that completed none
@@ -72,7 +72,7 @@ tidily_on old now new lines before turn few = record {
 }
 
 pub fewer_on : (old now new : Progress ByteNetwork) (lines : ℕ) → GoesTidily old now → TurnsBy
-    (Some lines) now new → lines ≤ 0 → bytes_on_way new.state.wires < bytes_on_way now.state.wires
+    (Some lines) now new → lines ≤ 0 → bytes_on_way new.state.pipes < bytes_on_way now.state.pipes
 fewer_on old now new lines before turn few =
     (goes_on now new before.tidy turn.0 (sym turn.1 ∙ none_at_most lines few)).fewer
 
@@ -112,7 +112,7 @@ comes_behind lines old between new taken none = by lines
     }
 
 comes_within : (fuel : ℕ) (old : Progress ByteNetwork) → IsTidy old.state
-    → bytes_on_way old.state.wires < fuel → ComesToSome old
+    → bytes_on_way old.state.pipes < fuel → ComesToSome old
 comes_within zero old tidy within = absurd (omega (arith, within))
 comes_within (suc fuel) old tidy within = by (turn_taken old) refl (comes_within fuel)
   where
@@ -121,7 +121,7 @@ comes_within (suc fuel) old tidy within = by (turn_taken old) refl (comes_within
 
     by_lines : (between : Progress ByteNetwork) → turn_taken old ≡ Some between → (n : ℕ)
         → lines_in_turn old.state ≡ n → ((progress : Progress ByteNetwork) → IsTidy progress.state
-        → bytes_on_way progress.state.wires < fuel → ComesToSome progress) → ComesToSome old
+        → bytes_on_way progress.state.pipes < fuel → ComesToSome progress) → ComesToSome old
     by_lines between taken (suc n) are later = record {
       lines = Some (suc n);
       new = between;
@@ -136,7 +136,7 @@ comes_within (suc fuel) old tidy within = by (turn_taken old) refl (comes_within
     by_lines between taken zero none later =
         let on = goes_on old between tidy taken none in
         let rest = later between on.tidy
-        (less (bytes_on_way between.state.wires) (bytes_on_way old.state.wires) on.fewer within) in
+        (less (bytes_on_way between.state.pipes) (bytes_on_way old.state.pipes) on.fewer within) in
         record {
           lines = rest.lines;
           new = rest.new;
@@ -145,10 +145,10 @@ comes_within (suc fuel) old tidy within = by (turn_taken old) refl (comes_within
 
     by : (o : Option (Progress ByteNetwork)) → turn_taken old ≡ o
         → ((progress : Progress ByteNetwork) → IsTidy progress.state
-        → bytes_on_way progress.state.wires < fuel → ComesToSome progress) → ComesToSome old
+        → bytes_on_way progress.state.pipes < fuel → ComesToSome progress) → ComesToSome old
     by None is later = record { lines = None; new = old; comes = (none_yet, is) }
     by (Some between) is later = by_lines between is (lines_in_turn old.state) refl later
 
 pub each_comes_to_line : EachComesToLine
 each_comes_to_line old tidy =
-    comes_within (suc (bytes_on_way old.state.wires)) old tidy (omega arith)
+    comes_within (suc (bytes_on_way old.state.pipes)) old tidy (omega arith)

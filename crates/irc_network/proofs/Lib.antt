@@ -21,8 +21,8 @@ pub mod Replying
 pub mod Resting
 pub mod SentOut
 pub mod StaysTidy
-pub mod StillWires
+pub mod StillPipes
 pub mod Taking
 pub mod TurnLines
 pub mod WaysStay
-pub mod WireLines
+pub mod PipeLines

@@ -10,19 +10,19 @@ use Rattle.std.specs.Option.{option_map_or}
 use Rattle.std.specs.Ordering.{nat_cmp}
 use Rattle.irc_stage.specs.Lemmas.Listed.{listed}
 use Rattle.irc_network.specs.Network.{Node, waiting}
-use Rattle.irc_wires.specs.Wires.{AreLean, IsLean, LinkWire, Wires, are_still, are_still_in}
-use Rattle.irc_wires.specs.Wires.{is_still}
-use Rattle.irc_wires.specs.Wires.{lines_to_come, new_wire, wire_at, wire_in}
+use Rattle.irc_pipes.specs.Pipes.{AreLean, IsLean, LinkPipe, Pipes, are_still, are_still_in}
+use Rattle.irc_pipes.specs.Pipes.{is_still}
+use Rattle.irc_pipes.specs.Pipes.{lines_to_come, new_pipe, pipe_at, pipe_in}
 use Rattle.irc_network.specs.ByteNetwork.{lines_ahead}
 use Rattle.irc_network.specs.Whole.{IsWhole, NewIsWhole}
 use Rattle.irc_network.proofs.Refilled.{alone}
-use Rattle.irc_network.proofs.StillWires.{all_new}
-use Rattle.irc_network.proofs.WireLines.{IsKnownOfStreams, new_has_none, new_is_whole}
+use Rattle.irc_network.proofs.StillPipes.{all_new}
+use Rattle.irc_network.proofs.PipeLines.{IsKnownOfStreams, new_has_none, new_is_whole}
 use Rattle.irc_network.specs.Lemmas.NewFramer.{new_is_real}
 
 row_still : are_still_in (from_entries []) ≡ true
 row_still =
-    ap (λ (es : List (ℕ × LinkWire)). list_all (λ to. is_still (wire_in to (from_entries [])))
+    ap (λ (es : List (ℕ × LinkPipe)). list_all (λ to. is_still (pipe_in to (from_entries [])))
     (keys_of es)) (listed [] tt)
 
 rows_still : (servers : ℕ) → are_still (replicate servers empty) ≡ true
@@ -31,7 +31,7 @@ rows_still (suc servers) = and_from (are_still_in empty)
     (are_still (replicate servers empty)) row_still (rows_still servers)
 
 row_lean : IsLean empty
-row_lean to wire is = cc (sym (get-empty nat_cmp to) ∙ is)
+row_lean to pipe is = cc (sym (get-empty nat_cmp to) ∙ is)
 
 rows_lean : (servers : ℕ) → AreLean (replicate servers empty)
 rows_lean zero = tt
@@ -47,11 +47,11 @@ none_waits (node ∷ nodes) none (suc place) to = none_waits nodes none.1 place 
 
 pub is_as_new : IsKnownOfStreams → NewIsWhole
 is_as_new known net none =
-    let wires : Wires = replicate (length net.nodes) empty in
-    let still : are_still wires ≡ true = rows_still (length net.nodes) in
-    let wire_is : (from to : ℕ) → wire_at wires from to ≡ new_wire = all_new wires still in
-    let no_line : (from to : ℕ) → lines_ahead wires from to ≡ [] =
-    λ from to. ap lines_to_come (wire_is from to) ∙ new_has_none known new_is_real in
+    let pipes : Pipes = replicate (length net.nodes) empty in
+    let still : are_still pipes ≡ true = rows_still (length net.nodes) in
+    let pipe_is : (from to : ℕ) → pipe_at pipes from to ≡ new_pipe = all_new pipes still in
+    let no_line : (from to : ℕ) → lines_ahead pipes from to ≡ [] =
+    λ from to. ap lines_to_come (pipe_is from to) ∙ new_has_none known new_is_real in
     record {
       whole = record {
         tidy = record {
@@ -59,9 +59,9 @@ is_as_new known net none =
           rows = length-replicate (length net.nodes) empty;
           lean = rows_lean (length net.nodes);
         };
-        whole = λ from to. subst IsWhole (sym (wire_is from to)) (new_is_whole known new_is_real);
+        whole = λ from to. subst IsWhole (sym (pipe_is from to)) (new_is_whole known new_is_real);
         ways = λ from to no_way. no_line from to;
       };
-      as_lines = alone (lines_ahead wires) net no_line;
+      as_lines = alone (lines_ahead pipes) net no_line;
       at_rest = still;
     }

@@ -12,7 +12,7 @@ use Rattle.irc_relay.specs.Links.{Name}
 use Rattle.irc_network.specs.declared.receipt.Receipt.{Receipt as KeptReceipt}
 use Rattle.irc_network.specs.Histories.{Becomes, Past, line_behind, with_line}
 use Rattle.irc_network.specs.Loops.Progress.{progress_of}
-use Rattle.irc_wires.specs.Wires.{Wires}
+use Rattle.irc_pipes.specs.Pipes.{Pipes}
 use Rattle.irc_network.specs.ByteNetwork.{ByteNetwork}
 use Rattle.irc_network.specs.Network.{Network, Receipt, Node, has_received}
 use Rattle.irc_network.specs.Network.{has_received_at, receipt}
@@ -30,9 +30,9 @@ seen forest nodes homes past taken = record {
   taken = taken;
 }
 
-abbrev pub whole : Forest → List Node → Wires → List Name → Past → ℕ → ByteNetwork
-whole forest nodes wires homes past taken =
-    record { network = seen forest nodes homes past taken; wires = wires }
+abbrev pub whole : Forest → List Node → Pipes → List Name → Past → ℕ → ByteNetwork
+whole forest nodes pipes homes past taken =
+    record { network = seen forest nodes homes past taken; pipes = pipes }
 
 pub some_copied : {X : Type 0} (o : Option (Bor X)) → is_some o ≡ is_some (option_copied o)
 some_copied None = refl

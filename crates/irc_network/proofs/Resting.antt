@@ -9,21 +9,21 @@ use Rattle.std.specs.Ordering.{nat_cmp}
 use Rattle.std.specs.Cmp.{first_so, second_so}
 use Rattle.irc_line.specs.Lines.{begun_behind, has_nothing}
 use Rattle.irc_network.specs.Network.{Node, is_at_rest, is_nothing, is_quiet, waiting, waits}
-use Rattle.irc_wires.specs.Wires.{Direction, LinkWire, Wires, are_still, are_still_in, first_from}
-use Rattle.irc_wires.specs.Wires.{first_in, has_byte, is_none, is_still, lines_to_come, wire_at}
-use Rattle.irc_wires.specs.Wires.{wire_in}
+use Rattle.irc_pipes.specs.Pipes.{Direction, LinkPipe, Pipes, are_still, are_still_in, first_from}
+use Rattle.irc_pipes.specs.Pipes.{first_in, has_byte, is_none, is_still, lines_to_come, pipe_at}
+use Rattle.irc_pipes.specs.Pipes.{pipe_in}
 use Rattle.irc_network.specs.ByteNetwork.{lines_ahead}
 use Rattle.irc_network.specs.Whole.{IsWhole, NoByteRests, RestAsLines}
 use Rattle.irc_network.proofs.Refilled.{alone}
-use Rattle.irc_network.proofs.StillWires.{all_new}
-use Rattle.irc_network.proofs.WireLines.{IsKnownOfStreams, new_has_none}
+use Rattle.irc_network.proofs.StillPipes.{all_new}
+use Rattle.irc_network.proofs.PipeLines.{IsKnownOfStreams, new_has_none}
 use Rattle.irc_network.specs.Lemmas.NewFramer.{new_is_real}
 
 abbrev way : ℕ → ℕ → Direction
 way place to = record { from = place; to = to }
 
-abbrev WireRow : Type 0
-WireRow = FinMap nat_cmp LinkWire
+abbrev PipeRow : Type 0
+PipeRow = FinMap nat_cmp LinkPipe
 
 -- ---- no line waits
 
@@ -55,38 +55,38 @@ none_found p (n ∷ numbers) none = by (p n) (none_found p numbers) none
     by true later none = cc none
     by false later none = later none
 
-moves_not : (wire : LinkWire) → is_still wire ≡ true → not (has_byte wire) ≡ true
-moves_not wire still =
-    ap (λ b. not (not b)) (first_so (is_none wire.bytes) (has_nothing wire.begun) still)
+moves_not : (pipe : LinkPipe) → is_still pipe ≡ true → not (has_byte pipe) ≡ true
+moves_not pipe still =
+    ap (λ b. not (not b)) (first_so (is_none pipe.bytes) (has_nothing pipe.begun) still)
 
-none_moves : (row : WireRow) (numbers : List ℕ) → list_all (λ to. is_still (wire_in to row)) numbers
-    ≡ true → list_all (λ to. not (has_byte (wire_in to row))) numbers ≡ true
+none_moves : (row : PipeRow) (numbers : List ℕ) → list_all (λ to. is_still (pipe_in to row)) numbers
+    ≡ true → list_all (λ to. not (has_byte (pipe_in to row))) numbers ≡ true
 none_moves row [] still = refl
 none_moves row (to ∷ numbers) still =
-    and_from (not (has_byte (wire_in to row)))
-    (list_all (λ q. not (has_byte (wire_in q row))) numbers)
-    (moves_not (wire_in to row) (first_so (is_still (wire_in to row))
-    (list_all (λ q. is_still (wire_in q row)) numbers) still))
-    (none_moves row numbers (second_so (is_still (wire_in to row))
-    (list_all (λ q. is_still (wire_in q row)) numbers) still))
+    and_from (not (has_byte (pipe_in to row)))
+    (list_all (λ q. not (has_byte (pipe_in q row))) numbers)
+    (moves_not (pipe_in to row) (first_so (is_still (pipe_in to row))
+    (list_all (λ q. is_still (pipe_in q row)) numbers) still))
+    (none_moves row numbers (second_so (is_still (pipe_in to row))
+    (list_all (λ q. is_still (pipe_in q row)) numbers) still))
 
-pub no_direction : (place : ℕ) (wires : Wires) → are_still wires ≡ true
-    → first_from place wires ≡ None
+pub no_direction : (place : ℕ) (pipes : Pipes) → are_still pipes ≡ true
+    → first_from place pipes ≡ None
 no_direction place [] still = refl
-no_direction place (row ∷ wires) still =
-    ap (λ o. option_map_or (λ to. Some (way place to)) o (first_from (place + 1) wires))
-    (none_found (λ to. has_byte (wire_in to row)) (keys row)
-    (none_moves row (keys row) (first_so (are_still_in row) (are_still wires) still)))
-    ∙ no_direction (place + 1) wires (second_so (are_still_in row) (are_still wires) still)
+no_direction place (row ∷ pipes) still =
+    ap (λ o. option_map_or (λ to. Some (way place to)) o (first_from (place + 1) pipes))
+    (none_found (λ to. has_byte (pipe_in to row)) (keys row)
+    (none_moves row (keys row) (first_so (are_still_in row) (are_still pipes) still)))
+    ∙ no_direction (place + 1) pipes (second_so (are_still_in row) (are_still pipes) still)
 
 pub rest_as_lines : IsKnownOfStreams → RestAsLines
 rest_as_lines known net whole rest =
-    let same = alone (lines_ahead net.wires) net.network (λ from to.
-    ap lines_to_come (all_new net.wires rest from to) ∙ new_has_none known new_is_real) in
+    let same = alone (lines_ahead net.pipes) net.network (λ from to.
+    ap lines_to_come (all_new net.pipes rest from to) ∙ new_has_none known new_is_real) in
     record {
       as_lines = same;
       at_rest = ap is_at_rest same ∙ all_quiet net.network.nodes whole.tidy.quiet;
-      no_byte = no_direction 0 net.wires rest;
+      no_byte = no_direction 0 net.pipes rest;
     }
 
 not_found : (p : ℕ → Bool) (numbers : List ℕ) → find p numbers ≡ None
@@ -99,45 +99,45 @@ not_found p (n ∷ numbers) none = by (p n) (not_found p numbers) none
     by true later found = cc found
     by false later left = later left
 
-nothing_left : (known : IsKnownOfStreams) (wire : LinkWire) → IsWhole wire
-    → not (has_byte wire) ≡ true → is_still wire ≡ true
-nothing_left known wire whole none = by wire.bytes refl
+nothing_left : (known : IsKnownOfStreams) (pipe : LinkPipe) → IsWhole pipe
+    → not (has_byte pipe) ≡ true → is_still pipe ≡ true
+nothing_left known pipe whole none = by pipe.bytes refl
   where
-    by : (bytes : List ℕ) → wire.bytes ≡ bytes → is_still wire ≡ true
+    by : (bytes : List ℕ) → pipe.bytes ≡ bytes → is_still pipe ≡ true
     by (byte ∷ bytes) is = cc (sym none ∙ ap (λ bs. not (not (is_none bs))) is)
     by [] is =
-        and_from (is_none wire.bytes) (has_nothing wire.begun) (ap is_none is)
-        (ap has_nothing (sym ((known.pieces wire.begun whole.real).none_begun)
-        ∙ ap (begun_behind wire.begun) (sym is) ∙ whole.ends))
+        and_from (is_none pipe.bytes) (has_nothing pipe.begun) (ap is_none is)
+        (ap has_nothing (sym ((known.pieces pipe.begun whole.real).none_begun)
+        ∙ ap (begun_behind pipe.begun) (sym is) ∙ whole.ends))
 
-all_still : IsKnownOfStreams → (row : WireRow) (numbers : List ℕ)
-    → ((to : ℕ) → IsWhole (wire_in to row)) → list_all
-    (λ to. not (has_byte (wire_in to row))) numbers ≡ true
-    → list_all (λ to. is_still (wire_in to row)) numbers ≡ true
+all_still : IsKnownOfStreams → (row : PipeRow) (numbers : List ℕ)
+    → ((to : ℕ) → IsWhole (pipe_in to row)) → list_all
+    (λ to. not (has_byte (pipe_in to row))) numbers ≡ true
+    → list_all (λ to. is_still (pipe_in to row)) numbers ≡ true
 all_still known row [] whole none = refl
 all_still known row (to ∷ numbers) whole none =
-    and_from (is_still (wire_in to row)) (list_all (λ q. is_still (wire_in q row)) numbers)
-    (nothing_left known (wire_in to row) (whole to) (first_so (not (has_byte (wire_in to row)))
-    (list_all (λ q. not (has_byte (wire_in q row))) numbers) none))
-    (all_still known row numbers whole (second_so (not (has_byte (wire_in to row)))
-    (list_all (λ q. not (has_byte (wire_in q row))) numbers) none))
+    and_from (is_still (pipe_in to row)) (list_all (λ q. is_still (pipe_in q row)) numbers)
+    (nothing_left known (pipe_in to row) (whole to) (first_so (not (has_byte (pipe_in to row)))
+    (list_all (λ q. not (has_byte (pipe_in q row))) numbers) none))
+    (all_still known row numbers whole (second_so (not (has_byte (pipe_in to row)))
+    (list_all (λ q. not (has_byte (pipe_in q row))) numbers) none))
 
-none_from : IsKnownOfStreams → (place : ℕ) (wires : Wires)
-    → ((x to : ℕ) → IsWhole (wire_at wires x to)) → first_from place wires ≡ None → are_still wires
+none_from : IsKnownOfStreams → (place : ℕ) (pipes : Pipes)
+    → ((x to : ℕ) → IsWhole (pipe_at pipes x to)) → first_from place pipes ≡ None → are_still pipes
     ≡ true
 none_from known place [] whole none = refl
-none_from known place (row ∷ wires) whole none =
-    by (first_in row) refl (none_from known (place + 1) wires (λ x. whole (suc x))) none
+none_from known place (row ∷ pipes) whole none =
+    by (first_in row) refl (none_from known (place + 1) pipes (λ x. whole (suc x))) none
   where
     by : (o : Option ℕ) → first_in row ≡ o
-        → (first_from (place + 1) wires ≡ None → are_still wires ≡ true)
-        → option_map_or (λ to. Some (way place to)) o (first_from (place + 1) wires) ≡ None
-        → are_still (row ∷ wires) ≡ true
+        → (first_from (place + 1) pipes ≡ None → are_still pipes ≡ true)
+        → option_map_or (λ to. Some (way place to)) o (first_from (place + 1) pipes) ≡ None
+        → are_still (row ∷ pipes) ≡ true
     by (Some to) found later left = cc left
     by None none_here later left =
-        and_from (are_still_in row) (are_still wires)
+        and_from (are_still_in row) (are_still pipes)
         (all_still known row (keys row) (whole 0)
-        (not_found (λ to. has_byte (wire_in to row)) (keys row) none_here)) (later left)
+        (not_found (λ to. has_byte (pipe_in to row)) (keys row) none_here)) (later left)
 
 pub no_byte_rests : IsKnownOfStreams → NoByteRests
-no_byte_rests known net whole none = none_from known 0 net.wires whole.whole none
+no_byte_rests known net whole none = none_from known 0 net.pipes whole.whole none

@@ -7,8 +7,8 @@ use Rattle.std.specs.List.{slice_get, slice_set}
 use Rattle.std.specs.Option.{option_map_or}
 use Rattle.irc_server.specs.Served.{ReadEvent}
 use Rattle.irc_stage.specs.Lemmas.Numbers.{get-with, get-without, same_number}
-use Rattle.irc_wires.specs.Wires.{AreLean, Wires}
-use Rattle.irc_network.specs.ByteNetwork.{ByteNetwork, progress_without_wires}
+use Rattle.irc_pipes.specs.Pipes.{AreLean, Pipes}
+use Rattle.irc_network.specs.ByteNetwork.{ByteNetwork, progress_without_pipes}
 use Rattle.irc_network.specs.ByteNetwork.{queues_written}
 use Rattle.irc_network.specs.Lemmas.Emptied.{emptied_waits}
 use Rattle.irc_network.specs.Lemmas.Rows.{closed_rows, length_set}
@@ -29,18 +29,18 @@ IsQuiet nodes = (place to : ℕ)
 
 -- ---- what was written waits no more
 
-pub tidy_written : (net : Network) (wires : Wires) → AreLean wires
-    → length wires ≡ length net.nodes → IsTidy (queues_written net wires)
-tidy_written net wires lean long =
-    let written = is_written net wires lean long in
+pub tidy_written : (net : Network) (pipes : Pipes) → AreLean pipes
+    → length pipes ≡ length net.nodes → IsTidy (queues_written net pipes)
+tidy_written net pipes lean long =
+    let written = is_written net pipes lean long in
     record { quiet = emptied_waits net; rows = written.rows; lean = written.lean }
 
 pub asked_tidy : (place : ℕ) (read_event : ReadEvent) (progress : Progress ByteNetwork)
     → IsTidy progress.state → IsTidy (asked_out place read_event progress).state
 asked_tidy place read_event progress tidy =
     tidy_written
-    (node_asked place read_event (progress_without_wires progress)).state progress.state.wires
-    tidy.lean (tidy.rows ∙ sym (asked_stays place read_event (progress_without_wires progress)))
+    (node_asked place read_event (progress_without_pipes progress)).state progress.state.pipes
+    tidy.lean (tidy.rows ∙ sym (asked_stays place read_event (progress_without_pipes progress)))
 
 pub counted_tidy : (net : ByteNetwork) → IsTidy net → IsTidy (byte_counted net)
 counted_tidy net tidy = record { quiet = tidy.quiet; rows = tidy.rows; lean = tidy.lean }
@@ -127,8 +127,8 @@ closed_tidy ends net tidy =
       quiet = changed_quiet first ends.far (without_way ends.near) (closed_quiet ends.near)
           (changed_quiet net.network ends.near (without_way ends.far) (closed_quiet ends.far)
           tidy.quiet);
-      rows = closed_rows (Some ends) net.wires ∙ tidy.rows
+      rows = closed_rows (Some ends) net.pipes ∙ tidy.rows
           ∙ sym (changed_stays ends.far (without_way ends.near) first
           ∙ changed_stays ends.near (without_way ends.far) net.network);
-      lean = lean_along (Some ends) net.wires tidy.lean;
+      lean = lean_along (Some ends) net.pipes tidy.lean;
     }

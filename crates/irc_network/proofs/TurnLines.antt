@@ -6,8 +6,8 @@ use Rattle.std.specs.Option.{option_and_then, option_map_or}
 use Rattle.irc_line.specs.Lines.{completed}
 use Rattle.irc_network.specs.Network.{Progress, delivered, direction}
 use Rattle.irc_network.specs.Network.{Network, first_among, is_nothing, next_in_turn, node_at}
-use Rattle.irc_wires.specs.Wires.{Direction, LinkWire, first_direction, has_byte, is_none}
-use Rattle.irc_wires.specs.Wires.{lines_to_come, wire_at}
+use Rattle.irc_pipes.specs.Pipes.{Direction, LinkPipe, first_direction, has_byte, is_none}
+use Rattle.irc_pipes.specs.Pipes.{lines_to_come, pipe_at}
 use Rattle.irc_network.specs.Behind.{Ahead, nodes_behind}
 use Rattle.irc_network.specs.ByteNetwork.{ByteNetwork, completed_in, progress_in_lines}
 use Rattle.irc_network.specs.ByteNetwork.{net_in_lines, lines_ahead}
@@ -16,7 +16,7 @@ use Rattle.irc_network.specs.Whole.{AreLinesWaiting, BytesComeAsLines, ComeAsLin
 use Rattle.irc_network.specs.Whole.{IsWhole, IsWholeNet, TurnAsLines, TurnsAsLines, has_way}
 use Rattle.irc_network.specs.Whole.{no_line, no_more, one_first, one_line}
 use Rattle.irc_network.proofs.FirstWays.{HasAhead, first_is}
-use Rattle.irc_network.proofs.WireLines.{IsKnownOfStreams, lines_parted}
+use Rattle.irc_network.proofs.PipeLines.{IsKnownOfStreams, lines_parted}
 
 -- ---- no line is delivered, or one
 
@@ -33,12 +33,12 @@ one_is (one_first {count = count} first rest) one =
 
 -- ---- a direction in which a byte is on its way
 
-none_to_come : (known : IsKnownOfStreams) (wire : LinkWire) → IsWhole wire → has_byte wire ≡ false
-    → lines_to_come wire ≡ []
-none_to_come known wire whole none = by wire.bytes refl
+none_to_come : (known : IsKnownOfStreams) (pipe : LinkPipe) → IsWhole pipe → has_byte pipe ≡ false
+    → lines_to_come pipe ≡ []
+none_to_come known pipe whole none = by pipe.bytes refl
   where
-    by : (bytes : List ℕ) → wire.bytes ≡ bytes → lines_to_come wire ≡ []
-    by [] is = ap (completed wire.begun) is ∙ (known.pieces wire.begun whole.real).none
+    by : (bytes : List ℕ) → pipe.bytes ≡ bytes → lines_to_come pipe ≡ []
+    by [] is = ap (completed pipe.begun) is ∙ (known.pieces pipe.begun whole.real).none
     by (byte ∷ bytes) is = cc (sym none ∙ ap (λ bs. not (is_none bs)) is)
 
 some_to_come : (all lines rest : List (List ℕ)) → all ≡ lines ++ rest → length lines ≡ 1
@@ -48,9 +48,9 @@ some_to_come all (first ∷ lines) rest is one = ap is_nothing is
 
 module _ (known : IsKnownOfStreams) (come : BytesComeAsLines) (old : Progress ByteNetwork)
     (whole : IsWholeNet old.state) (are : AreLinesWaiting (net_in_lines old.state))
-    (d : Direction) (first : first_direction old.state.wires ≡ Some d) where
-  abbrev wire : LinkWire
-  wire = wire_at old.state.wires d.from d.to
+    (d : Direction) (first : first_direction old.state.pipes ≡ Some d) where
+  abbrev pipe : LinkPipe
+  pipe = pipe_at old.state.pipes d.from d.to
 
   abbrev count : ℕ
   count = bytes_in_turn old.state d
@@ -59,15 +59,15 @@ module _ (known : IsKnownOfStreams) (come : BytesComeAsLines) (old : Progress By
   lines = completed_in old.state d.from d.to count
 
   abbrev ahead : Ahead
-  ahead = lines_ahead old.state.wires
+  ahead = lines_ahead old.state.pipes
 
   comes : ComeAsLines d.from d.to count old
   comes = come d.from d.to count old whole
 
   one_at_most : length lines ≤ 1
   one_at_most =
-      subst (λ begun. length (completed begun (take count wire.bytes)) ≤ 1)
-      (known.pieces wire.begun (whole.whole d.from d.to).real).none_begun
+      subst (λ begun. length (completed begun (take count pipe.bytes)) ≤ 1)
+      (known.pieces pipe.begun (whole.whole d.from d.to).real).none_begun
       ((whole.whole d.from d.to).singly 0)
 
   lines_are : (n : ℕ) → length lines ≡ n → lines_in_turn old.state ≡ n
@@ -78,7 +78,7 @@ module _ (known : IsKnownOfStreams) (come : BytesComeAsLines) (old : Progress By
   module _ (one : length lines ≡ 1) where
     some_ahead : is_nothing (ahead d.from d.to) ≡ false
     some_ahead = some_to_come (ahead d.from d.to) lines _
-        (lines_parted known wire (whole.whole d.from d.to) count) one
+        (lines_parted known pipe (whole.whole d.from d.to) count) one
 
     way_there : has_way old.state.network d.from d.to ≡ true
     way_there = by (has_way old.state.network d.from d.to) refl
@@ -97,8 +97,8 @@ module _ (known : IsKnownOfStreams) (come : BytesComeAsLines) (old : Progress By
     first_line : first_among 0 (nodes_behind ahead old.state.network.nodes)
         ≡ Some (direction d.from d.to)
     first_line =
-        first_is 0 old.state.wires old.state.network.nodes ahead d whole.tidy.rows
-        (λ x to none. none_to_come known (wire_at old.state.wires x to) (whole.whole x to) none)
+        first_is 0 old.state.pipes old.state.network.nodes ahead d whole.tidy.rows
+        (λ x to none. none_to_come known (pipe_at old.state.pipes x to) (whole.whole x to) none)
         whole.tidy.quiet ahead_there first
 
     next_is : next_in_turn (progress_in_lines old) ≡ Some comes.last
@@ -122,9 +122,9 @@ module _ (known : IsKnownOfStreams) (come : BytesComeAsLines) (old : Progress By
       by (suc (suc n)) more = absurd (omega (arith, one_at_most, more))
 
 pub turn_as_lines : IsKnownOfStreams → BytesComeAsLines → TurnAsLines
-turn_as_lines known come old new whole are turn = by (first_direction old.state.wires) refl turn
+turn_as_lines known come old new whole are turn = by (first_direction old.state.pipes) refl turn
   where
-    by : (o : Option Direction) → first_direction old.state.wires ≡ o
+    by : (o : Option Direction) → first_direction old.state.pipes ≡ o
         → option_map (turn_in old) o ≡ Some new → TurnsAsLines old new
     by None none turned = cc turned
     by (Some d) first turned = subst (TurnsAsLines old) (ap (λ o. unwrap_or o old) turned)

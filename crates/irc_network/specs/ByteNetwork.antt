@@ -14,29 +14,29 @@ use Rattle.std.specs.Ordering.{nat_cmp}
 use Rattle.irc_world.specs.Stepping.{Item, cut}
 use Rattle.irc_network.specs.Network.{Progress, LinkPlaces, Network, Node, link_places}
 use Rattle.irc_network.specs.Network.{given, heard, node_at, waiting}
-use Rattle.irc_wires.specs.Wires.{LinkWire, Wires, advanced, are_still, lines_by, lines_to_come}
-use Rattle.irc_wires.specs.Wires.{put_in}
-use Rattle.irc_wires.specs.Wires.{wire_at, wire_in, with_wire, without_wire, written}
+use Rattle.irc_pipes.specs.Pipes.{LinkPipe, Pipes, advanced, are_still, lines_by, lines_to_come}
+use Rattle.irc_pipes.specs.Pipes.{put_in}
+use Rattle.irc_pipes.specs.Pipes.{pipe_at, pipe_in, with_pipe, without_pipe, written}
 use Rattle.irc_network.specs.Behind.{Ahead, net_behind, emptied}
 
 -- The servers, links and clients, and what is on its way along the links. No line waits in the
 -- network: it is written.
 pub record ByteNetwork : Type 0 where
   pub network : Network
-  pub wires : Wires
+  pub pipes : Pipes
 
--- each server has a row of wires
+-- each server has a row of pipes
 abbrev pub HasRows : ByteNetwork → Type 0
-HasRows net = length net.wires ≡ length net.network.nodes
+HasRows net = length net.pipes ≡ length net.network.nodes
 
 -- ---- what it is as a network whose links carry lines
 
 -- the lines that what is on its way will complete
-abbrev pub lines_ahead : Wires → Ahead
-lines_ahead wires from to = lines_to_come (wire_at wires from to)
+abbrev pub lines_ahead : Pipes → Ahead
+lines_ahead pipes from to = lines_to_come (pipe_at pipes from to)
 
 abbrev pub net_in_lines : ByteNetwork → Network
-net_in_lines net = net_behind (lines_ahead net.wires) net.network
+net_in_lines net = net_behind (lines_ahead net.pipes) net.network
 
 abbrev pub progress_in_lines : Progress ByteNetwork → Progress Network
 progress_in_lines progress =
@@ -46,40 +46,40 @@ progress_in_lines progress =
 
 -- no byte is on its way, and no part of a line has come anywhere
 abbrev pub is_byte_rest : ByteNetwork → Bool
-is_byte_rest net = are_still net.wires
+is_byte_rest net = are_still net.pipes
 
 -- ---- what is put out is written
 
 -- one line after another
-abbrev pub all_written : List (List ℕ) → LinkWire → LinkWire
-all_written [] wire = wire
-all_written (line ∷ lines) wire = all_written lines (written line wire)
+abbrev pub all_written : List (List ℕ) → LinkPipe → LinkPipe
+all_written [] pipe = pipe
+all_written (line ∷ lines) pipe = all_written lines (written line pipe)
 
 abbrev pub waiting_at : Network → ℕ → ℕ → List (List ℕ)
 waiting_at net from to = option_map_or (λ node. waiting node to) (node_at net from) []
 
 -- of one server, way by way, each under the place where it goes
-abbrev pub row_written : List (ℕ × List (List ℕ)) → FinMap nat_cmp LinkWire
-    → FinMap nat_cmp LinkWire
+abbrev pub row_written : List (ℕ × List (List ℕ)) → FinMap nat_cmp LinkPipe
+    → FinMap nat_cmp LinkPipe
 row_written [] row = row
 row_written (way ∷ ways) row =
-    row_written ways (put_in way.0 (all_written way.1 (wire_in way.0 row)) row)
+    row_written ways (put_in way.0 (all_written way.1 (pipe_in way.0 row)) row)
 
 -- of all servers, by their places
-abbrev pub rows_written : List Node → Wires → Wires
-rows_written [] wires = wires
+abbrev pub rows_written : List Node → Pipes → Pipes
+rows_written [] pipes = pipes
 rows_written (node ∷ nodes) [] = []
-rows_written (node ∷ nodes) (row ∷ wires) =
-    row_written (entries node.queues) row ∷ rows_written nodes wires
+rows_written (node ∷ nodes) (row ∷ pipes) =
+    row_written (entries node.queues) row ∷ rows_written nodes pipes
 
--- What waits is written along these wires, and waits no more.
-abbrev pub queues_written : Network → Wires → ByteNetwork
-queues_written net wires = record { network = emptied net; wires = rows_written net.nodes wires }
+-- What waits is written along these pipes, and waits no more.
+abbrev pub queues_written : Network → Pipes → ByteNetwork
+queues_written net pipes = record { network = emptied net; pipes = rows_written net.nodes pipes }
 
 -- what servers have put out for each other is written; what clients received is theirs already
-abbrev pub progress_written : Progress Network → Wires → Progress ByteNetwork
-progress_written progress wires =
-    record { state = queues_written progress.state wires; out = progress.out }
+abbrev pub progress_written : Progress Network → Pipes → Progress ByteNetwork
+progress_written progress pipes =
+    record { state = queues_written progress.state pipes; out = progress.out }
 
 -- ---- what is given
 
@@ -89,18 +89,18 @@ cut_ends net (cut near far) = link_places net near far
 cut_ends net other = None
 
 -- what is on its way along the link is lost, and the framers at its ends begin anew
-abbrev pub lost_along : Option LinkPlaces → Wires → Wires
-lost_along None wires = wires
-lost_along (Some ends) wires =
-    without_wire ends.far ends.near (without_wire ends.near ends.far wires)
+abbrev pub lost_along : Option LinkPlaces → Pipes → Pipes
+lost_along None pipes = pipes
+lost_along (Some ends) pipes =
+    without_pipe ends.far ends.near (without_pipe ends.near ends.far pipes)
 
 -- of all items only a cut changes what is on its way already
-abbrev pub wires_after : Network → Item → Wires → Wires
-wires_after net item wires = lost_along (cut_ends net item) wires
+abbrev pub pipes_after : Network → Item → Pipes → Pipes
+pipes_after net item pipes = lost_along (cut_ends net item) pipes
 
 unfoldable pub item_given : Item → ByteNetwork → Progress ByteNetwork
 item_given item net =
-    progress_written (given item net.network) (wires_after net.network item net.wires)
+    progress_written (given item net.network) (pipes_after net.network item net.pipes)
 
 -- ---- bytes come
 
@@ -111,21 +111,21 @@ all_heard from to progress (line ∷ lines) = all_heard from to (heard from to p
 
 -- the lines that so many bytes complete which come from one server to another
 abbrev pub completed_in : ByteNetwork → ℕ → ℕ → ℕ → List (List ℕ)
-completed_in net from to count = lines_by count (wire_at net.wires from to)
+completed_in net from to count = lines_by count (pipe_at net.pipes from to)
 
--- the wires once they have come
-abbrev pub wires_come : ByteNetwork → ℕ → ℕ → ℕ → Wires
-wires_come net from to count =
-    with_wire from to (advanced count (wire_at net.wires from to)) net.wires
+-- the pipes once they have come
+abbrev pub pipes_come : ByteNetwork → ℕ → ℕ → ℕ → Pipes
+pipes_come net from to count =
+    with_pipe from to (advanced count (pipe_at net.pipes from to)) net.pipes
 
 -- servers are asked as in a network of lines: what is on its way is nothing to them
-abbrev pub progress_without_wires : Progress ByteNetwork → Progress Network
-progress_without_wires progress =
+abbrev pub progress_without_pipes : Progress ByteNetwork → Progress Network
+progress_without_pipes progress =
     record { state = progress.state.network; out = progress.out }
 
 -- So many bytes come from one server to another, or all that are on their way where there are
 -- fewer. The server that they come to is asked for each line that they complete, in turn.
 unfoldable pub bytes_come : ℕ → ℕ → ℕ → Progress ByteNetwork → Progress ByteNetwork
 bytes_come from to count progress =
-    progress_written (all_heard from to (progress_without_wires progress)
-    (completed_in progress.state from to count)) (wires_come progress.state from to count)
+    progress_written (all_heard from to (progress_without_pipes progress)
+    (completed_in progress.state from to count)) (pipes_come progress.state from to count)

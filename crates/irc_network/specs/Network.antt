@@ -21,7 +21,7 @@ use Rattle.irc_stage.specs.View.{View}
 use Rattle.irc_server.specs.Served.{ReadEvent, of_client, link_up, link_says, link_down}
 use Rattle.irc_world.specs.Stepping.{Item, connect, line, gone, link, cut}
 use Rattle.irc_world.specs.World.{home_in}
-pub use Rattle.irc_wires.specs.Wires.{Direction}
+pub use Rattle.irc_pipes.specs.Pipes.{Direction}
 pub use Rattle.irc_network.specs.Node.{Served, Node, line_body, first_way, is_nothing, is_quiet}
 pub use Rattle.irc_network.specs.Node.{serves_read_event, left, line_queued, reply, waiting, waits}
 pub use Rattle.irc_network.specs.Node.{with_way, without_way}

@@ -8,27 +8,27 @@
 --   at rest   nothing is on its way
 use Rattle.std.specs.Prelude.{◌≡◌, ℕ, ◌+◌, ◌<◌, Option, Some, None, length}
 use Rattle.std.specs.Option.{option_map, option_map_or}
-use Rattle.irc_wires.specs.Wires.{Direction, first_direction, through_line_feed, wire_at}
+use Rattle.irc_pipes.specs.Pipes.{Direction, first_direction, through_line_feed, pipe_at}
 use Rattle.irc_network.specs.Network.{Progress}
 use Rattle.irc_network.specs.ByteNetwork.{ByteNetwork, bytes_come, completed_in}
 
 -- how many bytes come in a direction by a turn
 abbrev pub bytes_in_turn : ByteNetwork → Direction → ℕ
-bytes_in_turn net d = through_line_feed (wire_at net.wires d.from d.to).bytes
+bytes_in_turn net d = through_line_feed (pipe_at net.pipes d.from d.to).bytes
 
 abbrev pub turn_in : Progress ByteNetwork → Direction → Progress ByteNetwork
 turn_in progress d = bytes_come d.from d.to (bytes_in_turn progress.state d) progress
 
 -- none where no byte is on its way
 abbrev pub turn_taken : Progress ByteNetwork → Option (Progress ByteNetwork)
-turn_taken progress = option_map (turn_in progress) (first_direction progress.state.wires)
+turn_taken progress = option_map (turn_in progress) (first_direction progress.state.pipes)
 
 -- how many lines the turn completes
 abbrev pub lines_in : ByteNetwork → Direction → ℕ
 lines_in net d = length (completed_in net d.from d.to (bytes_in_turn net d))
 
 abbrev pub lines_in_turn : ByteNetwork → ℕ
-lines_in_turn net = option_map_or (lines_in net) (first_direction net.wires) 0
+lines_in_turn net = option_map_or (lines_in net) (first_direction net.pipes) 0
 
 -- a turn that completes so many lines, or none
 abbrev pub TurnsBy : Option ℕ → Progress ByteNetwork → Progress ByteNetwork → Type 0

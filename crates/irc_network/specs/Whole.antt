@@ -10,9 +10,9 @@ use Rattle.irc_line.specs.Lines.{HasTaken, IsLine, begun_behind, nothing_begun, 
 use Rattle.irc_network.specs.Network.{Progress, Network, Node, delivered, given, is_at_rest}
 use Rattle.irc_network.specs.Network.{next_in_turn, node_at, waiting}
 use Rattle.irc_world.specs.Stepping.{Item}
-use Rattle.irc_wires.specs.Wires.{AreLean, LinkWire, advanced, first_direction, lines_by}
-use Rattle.irc_wires.specs.Wires.{lines_to_come}
-use Rattle.irc_wires.specs.Wires.{through_line_feed, wire_at}
+use Rattle.irc_pipes.specs.Pipes.{AreLean, LinkPipe, advanced, first_direction, lines_by}
+use Rattle.irc_pipes.specs.Pipes.{lines_to_come}
+use Rattle.irc_pipes.specs.Pipes.{through_line_feed, pipe_at}
 use Rattle.irc_network.specs.ByteNetwork.{ByteNetwork, HasRows, bytes_come}
 use Rattle.irc_network.specs.ByteNetwork.{completed_in, progress_in_lines, net_in_lines}
 use Rattle.irc_network.specs.ByteNetwork.{is_byte_rest, item_given, waiting_at}
@@ -28,12 +28,12 @@ ends_in_feed (byte ∷ next ∷ bytes) = ends_in_feed (next ∷ bytes)
 
 -- Some stream led to the framer at the far end, and all that is on its way ends lines. From
 -- wherever it comes, what is through the next LF completes one line at most.
-pub record IsWhole (wire : LinkWire) : Type 0 where
-  pub real : HasTaken wire.begun (stream_for wire.begun)
-  pub ends : begun_behind wire.begun wire.bytes ≡ nothing_begun
-  pub feed : ends_in_feed wire.bytes ≡ true
+pub record IsWhole (pipe : LinkPipe) : Type 0 where
+  pub real : HasTaken pipe.begun (stream_for pipe.begun)
+  pub ends : begun_behind pipe.begun pipe.bytes ≡ nothing_begun
+  pub feed : ends_in_feed pipe.bytes ≡ true
   pub singly : (come : ℕ)
-      → length (lines_by (through_line_feed (drop come wire.bytes)) (advanced come wire)) ≤ 1
+      → length (lines_by (through_line_feed (drop come pipe.bytes)) (advanced come pipe)) ≤ 1
 
 -- ---- all of them
 
@@ -41,18 +41,18 @@ abbrev pub has_way : Network → ℕ → ℕ → Bool
 has_way net from to =
     is_some (option_and_then (λ (node : Node). get node.queues to) (node_at net from))
 
--- No line waits in the network. Each server has its row of wires, and no wire is kept along which
+-- No line waits in the network. Each server has its row of pipes, and no pipe is kept along which
 -- nothing is on its way.
 pub record IsTidy (net : ByteNetwork) : Type 0 where
   pub quiet : (from to : ℕ) → waiting_at net.network from to ≡ []
   pub rows : HasRows net
-  pub lean : AreLean net.wires
+  pub lean : AreLean net.pipes
 
 pub record IsWholeNet (net : ByteNetwork) : Type 0 where
   pub tidy : IsTidy net
-  pub whole : (from to : ℕ) → IsWhole (wire_at net.wires from to)
+  pub whole : (from to : ℕ) → IsWhole (pipe_at net.pipes from to)
   pub ways : (from to : ℕ) → has_way net.network from to ≡ false
-      → lines_to_come (wire_at net.wires from to) ≡ []
+      → lines_to_come (pipe_at net.pipes from to) ≡ []
 
 -- each line that waits on a way is one
 abbrev pub AreLinesWaiting : Network → Type 0
@@ -67,12 +67,12 @@ pub record IsAsNew (net : ByteNetwork) : Type 0 where
   pub as_lines : net_in_lines net ≡ net.network
   pub at_rest : is_byte_rest net ≡ true
 
-abbrev pub no_wires : Network → ByteNetwork
-no_wires net = record { network = net; wires = replicate (length net.nodes) empty }
+abbrev pub no_pipes : Network → ByteNetwork
+no_pipes net = record { network = net; pipes = replicate (length net.nodes) empty }
 
 abbrev pub NewIsWhole : Type 0
 NewIsWhole = (net : Network) → AllByRecursion (λ (node : Node). node.queues ≡ empty) net.nodes
-    → IsAsNew (no_wires net)
+    → IsAsNew (no_pipes net)
 
 -- ---- an item that is given at rest
 
@@ -140,12 +140,12 @@ EachComesToLine = (old : Progress ByteNetwork) → IsTidy old.state → ComesToS
 pub record IsRestAsLines (net : ByteNetwork) : Type 0 where
   pub as_lines : net_in_lines net ≡ net.network
   pub at_rest : is_at_rest (net_in_lines net) ≡ true
-  pub no_byte : first_direction net.wires ≡ None
+  pub no_byte : first_direction net.pipes ≡ None
 
 abbrev pub RestAsLines : Type 0
 RestAsLines = (net : ByteNetwork) → IsWholeNet net → is_byte_rest net ≡ true → IsRestAsLines net
 
 -- Where no byte is on its way, no part of a line has come either.
 abbrev pub NoByteRests : Type 0
-NoByteRests = (net : ByteNetwork) → IsWholeNet net → first_direction net.wires ≡ None
+NoByteRests = (net : ByteNetwork) → IsWholeNet net → first_direction net.pipes ≡ None
     → is_byte_rest net ≡ true

@@ -1,8 +1,8 @@
 //! What comes along the links of a network.
 ghost use Rattle.std.specs.Prelude.{◌≡◌, min, IfOk, OnOk};
 ghost use Rattle.std.specs.Option.{option_map};
-ghost use Rattle.irc_wires.specs.Loops.Rows.{direction_of};
-ghost use Rattle.irc_wires.specs.Wires.{first_direction, through_line_feed, wire_at};
+ghost use Rattle.irc_pipes.specs.Loops.Rows.{direction_of};
+ghost use Rattle.irc_pipes.specs.Pipes.{first_direction, through_line_feed, pipe_at};
 ghost use Rattle.irc_network.specs.ByteNetwork.{is_byte_rest};
 ghost use Rattle.irc_network.specs.Calls.{HaveCome, HaveComeToLine, IsTurn};
 ghost use Rattle.irc_network.specs.Loops.Coming.{HaveHeard, bytes_between, lines_between};
@@ -21,23 +21,23 @@ impl<H: History> Network<H> {
     pub fn is_at_rest(&self) -> bool
         ensures { result ≡ is_byte_rest self.now }
     {
-        self.wires.are_still()
+        self.pipes.are_still()
     }
 
     /// How many bytes are on their way from one server to another up to and with the next LF; all
     /// where there is none.
     pub fn through_line_feed(&self, from: ServerPlace, to: ServerPlace) -> usize
-        ensures { result ≡ through_line_feed (wire_at self.now.wires from to).bytes }
+        ensures { result ≡ through_line_feed (pipe_at self.now.pipes from to).bytes }
     {
-        self.wires.through_line_feed(from, to)
+        self.pipes.through_line_feed(from, to)
     }
 
     /// The first direction in which a byte is on its way, by the place that it is from and then
     /// that where it goes.
     pub fn first_direction(&self) -> Option<EndPlaces>
-        ensures { option_map direction_of result ≡ first_direction self.now.wires }
+        ensures { option_map direction_of result ≡ first_direction self.now.pipes }
     {
-        self.wires.first_direction()
+        self.pipes.first_direction()
     }
 
     /// So many bytes come from one server to another, or all that are on their way where there are
@@ -58,9 +58,9 @@ impl<H: History> Network<H> {
         ensures lines { IfOk result (λ came. came.lines ≡ lines_between self.old ends count) }
         ensures come { OnOk result (HaveCome ends count self.old output.old self.new output.new) }
     {
-        irc_wires::laws::same_wires();
+        irc_pipes::laws::same_pipes();
         let mut lines = Vec::new(self.alloc);
-        let bytes = self.wires.take(ends.near, ends.far, count, &mut lines)?;
+        let bytes = self.pipes.take(ends.near, ends.far, count, &mut lines)?;
         let came = DeliveryCounts {
             bytes,
             lines: lines.len(),

@@ -48,7 +48,7 @@ impl<H: History> Network<H> {
         requires tidy { IsTidy self.old }
         ensures { OnOk result (AreSentOut place self.old output.old self.new output.new) }
     {
-        irc_wires::laws::same_wires();
+        irc_pipes::laws::same_pipes();
         for at in 0..output.out.len() {
             self.send(place, at, output)?;
         }
@@ -104,7 +104,7 @@ impl<H: History> Network<H> {
         ensures { OnOk result (self.new ≡ line_sent from to text.now self.old) }
     {
         if self.has_way(from, to) {
-            self.wires.write(from, to, body_of(text))
+            self.pipes.write(from, to, body_of(text))
         } else {
             Ok(())
         }

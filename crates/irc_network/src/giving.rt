@@ -127,7 +127,7 @@ impl<H: History> Network<H> {
         requires begins { output.old.lines.items ≡ [] }
         ensures { OnOk result (IsDone (link near.now far.now) self.old self.new output.new) }
     {
-        irc_wires::laws::same_wires();
+        irc_pipes::laws::same_pipes();
         let Some(ends) = self.ends_of(near, far) else {
             return Ok(());
         };
@@ -151,7 +151,7 @@ impl<H: History> Network<H> {
         requires begins { output.old.lines.items ≡ [] }
         ensures { OnOk result (IsDone (cut near.now far.now) self.old self.new output.new) }
     {
-        irc_wires::laws::same_wires();
+        irc_pipes::laws::same_pipes();
         let Some(ends) = self.ends_of(near, far) else {
             return Ok(());
         };
@@ -177,7 +177,7 @@ impl<H: History> Network<H> {
     fn close_way(&mut self, from: ServerPlace, to: ServerPlace)
         ensures { self.new ≡ way_closed from to self.old }
     {
-        self.wires.close(from, to);
+        self.pipes.close(from, to);
         if let Some(node) = self.nodes.get_mut(from.index()) {
             node.close_way(to.link());
         }

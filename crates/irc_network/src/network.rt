@@ -8,7 +8,7 @@ ghost use Rattle.irc_network.specs.Views.{line_bytes};
 ghost use Rattle.irc_network.specs.Network.{home_place, link_places, new_network, next_client};
 ghost use Rattle.irc_network.specs.Network.{number_given, received_by, server_place, node_at};
 ghost use Rattle.irc_network.specs.Views.{item_of, items_of};
-ghost use Rattle.irc_network.specs.Whole.{no_wires};
+ghost use Rattle.irc_network.specs.Whole.{no_pipes};
 ghost use Rattle.irc_world.specs.World.{home_in};
 
 use crate::client_number::ClientNumber;
@@ -20,7 +20,7 @@ use crate::node::Node;
 use irc_forest::{EndPlaces, Forest, ServerPlace};
 use irc_line::Text;
 use irc_names::ServerName;
-use irc_wires::Wires;
+use irc_pipes::Pipes;
 use std::alloc::{AllocError, Global};
 use std::marker::Model;
 
@@ -33,7 +33,7 @@ pub struct Network<H: History> {
     pub(crate) forest: Forest,
     /// In the order of their names.
     pub(crate) nodes: Vec<Node, Global>,
-    pub(crate) wires: Wires,
+    pub(crate) pipes: Pipes,
     /// The home of each client, in the order of their numbers.
     pub(crate) homes: Vec<ServerName, Global>,
     pub(crate) history: H,
@@ -62,7 +62,7 @@ impl<H: History> Model for Network<H> {
         items = (H.past n.history).items;
         taken = n.taken;
       };
-      wires = n.wires;
+      pipes = n.pipes;
     } };
 
     ghost invariant = { λ n. length (H.past n.history).received ≡ length n.homes.items };
@@ -101,14 +101,14 @@ impl<H: History> Network<H> {
     /// # Errors
     /// Where memory runs out.
     pub fn new(alloc: Global, forest: Forest, nodes: Vec<Node, Global>) -> Result<Self, AllocError>
-        ensures { IfOk result (λ net. net ≡ no_wires (new_network forest nodes.items)) }
+        ensures { IfOk result (λ net. net ≡ no_pipes (new_network forest nodes.items)) }
     {
-        let wires = Wires::new(alloc, nodes.len())?;
+        let pipes = Pipes::new(alloc, nodes.len())?;
         Ok(Network {
             alloc,
             forest,
             nodes,
-            wires,
+            pipes,
             homes: Vec::new(alloc),
             history: H::new(alloc),
             taken: 0,

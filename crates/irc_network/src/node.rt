@@ -21,7 +21,7 @@ pub struct Node {
     ways: BTreeMap<u64, OpenWay, Global>,
 }
 
-/// A way to another server. What goes there is on a wire.
+/// A way to another server. What goes there is on a pipe.
 #[derive(Drop)]
 struct OpenWay {}
 

@@ -1,2 +1,2 @@
-pub mod ByVariant
 pub mod Lengths
+pub mod Written

@@ -1,11 +1,15 @@
 -- The replies, a row each, in the order of the numbers (RFC 2812 section 5), and how one is
 -- written. The numbers are the standard's, the texts our own after it.
-use Rattle.std.specs.Prelude.{ℕ, ◌+◌, ◌/◌, ◌%◌, if◌then◌else◌, Option, Some, None, List, [], ◌∷◌}
-use Rattle.std.specs.Prelude.{◌++◌, map, codes, decimal, option_to_list, unwrap_or}
+use Rattle.std.specs.Prelude.{ℕ, ◌+◌, ◌/◌, ◌%◌, Bool, if◌then◌else◌, Option, Some, None, List, []}
+use Rattle.std.specs.Prelude.{◌∷◌, ◌++◌, map, codes, decimal, option_to_list, unwrap_or}
 use Rattle.std.specs.List.{flat_map, join_with_byte}
 use Rattle.std.specs.Option.{option_map}
 use Rattle.irc_line.specs.Bytes.{space}
 use Rattle.irc_line.specs.Messages.{Written, named, text}
+use Rattle.irc_names.specs.Limits.{max_nick, max_channel, max_host, max_server, max_key}
+use Rattle.irc_names.specs.Limits.{max_ban_mask, max_user_name, max_real_name, max_words, max_info}
+use Rattle.irc_names.specs.Limits.{max_created}
+use Rattle.irc_numerics.specs.Limits.{max_mode_letters}
 use Rattle.irc_numerics.specs.declared.replies.MemberMark.{MemberMark}
 use Rattle.irc_numerics.specs.declared.replies.Visibility.{Visibility}
 use Rattle.irc_numerics.specs.declared.replies.Listed.{Listed}
@@ -84,98 +88,199 @@ marked_nick member = mark_text member.mark ++ member.nick
 abbrev pub on_channel : OnChannel → List ℕ
 on_channel place = mark_text place.mark ++ place.channel
 
--- a channel and its modes, with its key behind them if there is one, and then its limit
-abbrev pub mode_words : List ℕ → List ℕ → Option (List ℕ) → Option (List ℕ) → List (List ℕ)
-mode_words channel modes key limit =
-    (channel ∷ modes ∷ []) ++ option_to_list key ++ option_to_list limit
+-- A piece of a reply. What it is decides how long it can be (`Laws.antt`).
+pub data Piece : Type 0 where
+  -- the server's own words
+  ours : List ℕ → Piece
+  -- a name or a text of at most so many bytes
+  limited : ℕ → List ℕ → Piece
+  -- a client's own words
+  asked : List ℕ → Piece
+  -- a number in decimal
+  count : ℕ → Piece
+  -- a byte that is no mode
+  no_mode : ℕ → Piece
+  -- a user's own mode: whether it is invisible
+  own_mode : Bool → Piece
+  -- who may know of a channel
+  sign : Visibility → Piece
+  -- a user that is here, which each is, and its mark
+  here : MemberMark → Piece
+  -- a channel, if one was asked for
+  channel_or_star : Option (List ℕ) → Piece
+  -- members of a channel
+  members : List Listed → Piece
+  -- channels of a user
+  places : List OnChannel → Piece
 
--- A row: the number of a reply, and the words behind the reply name.
+-- the bytes of a piece
+abbrev pub piece_text : Piece → List ℕ
+piece_text (ours bytes) = bytes
+piece_text (limited _ bytes) = bytes
+piece_text (asked bytes) = bytes
+piece_text (count number) = decimal number
+piece_text (no_mode byte) = byte ∷ []
+piece_text (own_mode invisible) = if invisible then codes "+i" else codes "+"
+piece_text (sign visibility) = visibility_text visibility
+piece_text (here mark) = codes "H" ++ mark_text mark
+piece_text (channel_or_star channel) = unwrap_or channel (codes "*")
+piece_text (members names) = spaced (map marked_nick names)
+piece_text (places channels) = spaced (map on_channel channels)
+
+-- names and texts, each with its limit
+abbrev pub the_nick : List ℕ → Piece
+the_nick = limited max_nick
+
+abbrev pub the_user : List ℕ → Piece
+the_user = limited max_user_name
+
+abbrev pub the_host : List ℕ → Piece
+the_host = limited max_host
+
+abbrev pub the_real_name : List ℕ → Piece
+the_real_name = limited max_real_name
+
+abbrev pub the_server : List ℕ → Piece
+the_server = limited max_server
+
+abbrev pub the_channel : List ℕ → Piece
+the_channel = limited max_channel
+
+abbrev pub the_topic : List ℕ → Piece
+the_topic = limited max_words
+
+-- a text of the server's own words alone
+abbrev pub our : List ℕ → List Piece
+our bytes = ours bytes ∷ []
+
+-- A row: the number of a reply, the pieces that stand as words, and those of the text behind a
+-- colon, if there is one.
+pub record Row : Type 0 where
+  pub number : ℕ
+  pub words : List Piece
+  pub text : Option (List Piece)
+
+-- a row of a number, words in order, and a text
+abbrev pub says : ℕ → List Piece → List Piece → Row
+says number words text = record { number = number; words = words; text = Some text }
+
+-- one without a text
+abbrev pub lists : ℕ → List Piece → Row
+lists number words = record { number = number; words = words; text = None }
+
+-- the rows
+abbrev pub row : Reply → Row
+row (Welcome nick user host) = says 001 []
+    (ours (codes "Welcome to the Internet Relay Network ") ∷ the_nick nick ∷ ours (codes "!")
+    ∷ the_user user ∷ ours (codes "@") ∷ the_host host ∷ [])
+row (YourHost server) = says 002 []
+    (ours (codes "Your host is ") ∷ the_server server
+    ∷ ours (codes ", running version treeircd-1") ∷ [])
+row (Created created) = says 003 []
+    (ours (codes "This server was created ") ∷ limited max_created created.items ∷ [])
+row (MyInfo server) = lists 004
+    (the_server server ∷ ours (codes "treeircd-1") ∷ ours (codes "i")
+    ∷ ours (codes "biklmnopstv") ∷ [])
+row (UserModeIs invisible) = lists 221 (own_mode invisible ∷ [])
+row (LuserClient users servers) = says 251 []
+    (ours (codes "There are ") ∷ count users ∷ ours (codes " users and 0 services on ")
+    ∷ count servers ∷ ours (codes " servers") ∷ [])
+row (LuserChannels channels) = says 254 (count channels ∷ []) (our (codes "channels formed"))
+row (LuserMe clients links) = says 255 []
+    (ours (codes "I have ") ∷ count clients ∷ ours (codes " clients and ") ∷ count links
+    ∷ ours (codes " servers") ∷ [])
+row (IsOn nicks) = says 303 [] (asked nicks.items ∷ [])
+row (WhoisUser nick user host real) = says 311
+    (the_nick nick ∷ the_user user ∷ the_host host ∷ ours (codes "*") ∷ [])
+    (the_real_name real ∷ [])
+row (WhoisServer nick server info) =
+    says 312 (the_nick nick ∷ the_server server ∷ []) (limited max_info info.items ∷ [])
+row (EndOfWho name) = says 315 (asked name.items ∷ []) (our (codes "End of WHO list"))
+row (EndOfWhois nick) = says 318 (asked nick.items ∷ []) (our (codes "End of WHOIS list"))
+row (WhoisChannels nick channels) = says 319 (the_nick nick ∷ []) (places channels.items ∷ [])
+row (ListRow channel shown topic) =
+    says 322 (the_channel channel ∷ count shown ∷ []) (the_topic topic.items ∷ [])
+row ListEnd = says 323 [] (our (codes "End of LIST"))
+row (ChannelModeIs channel modes key limit) = lists 324
+    ((the_channel channel ∷ limited max_mode_letters modes.items ∷ [])
+    ++ option_to_list (option_map (limited max_key) key) ++ option_to_list (option_map count limit))
+row (NoTopic channel) = says 331 (the_channel channel ∷ []) (our (codes "No topic is set"))
+row (Topic channel topic) = says 332 (the_channel channel ∷ []) (the_topic topic.items ∷ [])
+row (Inviting channel nick) = lists 341 (the_channel channel ∷ the_nick nick ∷ [])
+row (WhoReply channel user host server nick mark hops real) = says 352
+    (channel_or_star channel ∷ the_user user ∷ the_host host ∷ the_server server ∷ the_nick nick
+    ∷ here mark ∷ [])
+    (count hops ∷ ours (codes " ") ∷ the_real_name real ∷ [])
+row (NamReply visibility channel names) =
+    says 353 (sign visibility ∷ the_channel channel ∷ []) (members names ∷ [])
+row (EndOfNames name) = says 366 (asked name.items ∷ []) (our (codes "End of NAMES list"))
+row (BanList channel mask) = lists 367 (the_channel channel ∷ limited max_ban_mask mask ∷ [])
+row (EndOfBanList channel) =
+    says 368 (the_channel channel ∷ []) (our (codes "End of channel ban list"))
+row (NoSuchNick name) = says 401 (asked name.items ∷ []) (our (codes "No such nick/channel"))
+row (NoSuchChannel name) = says 403 (asked name.items ∷ []) (our (codes "No such channel"))
+row (CannotSendToChan channel) =
+    says 404 (the_channel channel ∷ []) (our (codes "Cannot send to channel"))
+row (TooManyChannels channel) =
+    says 405 (the_channel channel ∷ []) (our (codes "You have joined too many channels"))
+row (TooManyTargets target) = says 407 (asked target.items ∷ []) (our (codes "Too many targets"))
+row NoOrigin = says 409 [] (our (codes "No origin specified"))
+row (NoRecipient command) = says 411 []
+    (ours (codes "No recipient given (") ∷ asked command.items ∷ ours (codes ")") ∷ [])
+row NoTextToSend = says 412 [] (our (codes "No text to send"))
+row (UnknownCommand command) = says 421 (asked command.items ∷ []) (our (codes "Unknown command"))
+row NoMotd = says 422 [] (our (codes "MOTD File is missing"))
+row NoNicknameGiven = says 431 [] (our (codes "No nickname given"))
+row (ErroneousNickname nick) = says 432 (asked nick.items ∷ []) (our (codes "Erroneous nickname"))
+row (NicknameInUse nick) = says 433 (the_nick nick ∷ []) (our (codes "Nickname is already in use"))
+row (UserNotInChannel nick channel) =
+    says 441 (asked nick.items ∷ the_channel channel ∷ [])
+    (our (codes "They aren't on that channel"))
+row (NotOnChannel channel) =
+    says 442 (the_channel channel ∷ []) (our (codes "You're not on that channel"))
+row (UserOnChannel nick channel) =
+    says 443 (the_nick nick ∷ the_channel channel ∷ []) (our (codes "is already on channel"))
+row NotRegistered = says 451 [] (our (codes "You have not registered"))
+row (NeedMoreParams command) =
+    says 461 (asked command.items ∷ []) (our (codes "Not enough parameters"))
+row AlreadyRegistered = says 462 [] (our (codes "Unauthorized command (already registered)"))
+row (KeySet channel) = says 467 (the_channel channel ∷ []) (our (codes "Channel key already set"))
+row (ChannelIsFull channel) =
+    says 471 (the_channel channel ∷ []) (our (codes "Cannot join channel (+l)"))
+row (UnknownMode mode channel) = says 472 (no_mode mode ∷ [])
+    (ours (codes "is unknown mode char to me for ") ∷ the_channel channel ∷ [])
+row (InviteOnlyChan channel) =
+    says 473 (the_channel channel ∷ []) (our (codes "Cannot join channel (+i)"))
+row (BannedFromChan channel) =
+    says 474 (the_channel channel ∷ []) (our (codes "Cannot join channel (+b)"))
+row (BadChannelKey channel) =
+    says 475 (the_channel channel ∷ []) (our (codes "Cannot join channel (+k)"))
+row (BanListFull channel) =
+    says 478 (the_channel channel ∷ ours (codes "b") ∷ []) (our (codes "Channel list is full"))
+row (ChanOPrivsNeeded channel) =
+    says 482 (the_channel channel ∷ []) (our (codes "You're not channel operator"))
+row UModeUnknownFlag = says 501 [] (our (codes "Unknown MODE flag"))
+row UsersDontMatch = says 502 [] (our (codes "Cannot change mode for other users"))
+
+-- A row as it is written: the number, and the words behind the reply name.
 pub record ReplyRow : Type 0 where
   pub number : ℕ
   pub words : ReplyWords
 
--- a row of a number, parameters in order, and a text behind a colon
-abbrev pub says : ℕ → List (List ℕ) → List ℕ → ReplyRow
-says number parameters text = record { number = number; words = saying parameters text }
-
--- one without a text
+-- one of a number and words alone
 abbrev pub bare : ℕ → List (List ℕ) → ReplyRow
 bare number parameters = record { number = number; words = plain parameters }
 
--- the table: each reply's number, parameters and text
+-- the pieces of a row as words
+abbrev pub row_words : Row → ReplyWords
+row_words row = record {
+  middle = map piece_text row.words;
+  last = option_map (λ pieces. in_a_row (map piece_text pieces)) row.text;
+}
+
+-- the table: each reply's number, words and text
 unfoldable pub table : Reply → ReplyRow
-table (Welcome nick user host) = says 001 []
-    (in_a_row (codes "Welcome to the Internet Relay Network " ∷ nick ∷ codes "!" ∷ user ∷ codes "@"
-    ∷ host ∷ []))
-table (YourHost server) = says 002 []
-    (in_a_row (codes "Your host is " ∷ server ∷ codes ", running version treeircd-1" ∷ []))
-table (Created created) =
-    says 003 [] (in_a_row (codes "This server was created " ∷ created.items ∷ []))
-table (MyInfo server) =
-    bare 004 (server ∷ codes "treeircd-1" ∷ codes "i" ∷ codes "biklmnopstv" ∷ [])
-table (UserModeIs invisible) = bare 221 ((if invisible then codes "+i" else codes "+") ∷ [])
-table (LuserClient users servers) = says 251 []
-    (in_a_row (codes "There are " ∷ decimal users ∷ codes " users and 0 services on "
-    ∷ decimal servers ∷ codes " servers" ∷ []))
-table (LuserChannels channels) = says 254 (decimal channels ∷ []) (codes "channels formed")
-table (LuserMe clients links) = says 255 []
-    (in_a_row (codes "I have " ∷ decimal clients ∷ codes " clients and " ∷ decimal links
-    ∷ codes " servers" ∷ []))
-table (IsOn nicks) = says 303 [] nicks.items
-table (WhoisUser nick user host real) = says 311 (nick ∷ user ∷ host ∷ codes "*" ∷ []) real
-table (WhoisServer nick server info) = says 312 (nick ∷ server ∷ []) info.items
-table (EndOfWho name) = says 315 (name.items ∷ []) (codes "End of WHO list")
-table (EndOfWhois nick) = says 318 (nick.items ∷ []) (codes "End of WHOIS list")
-table (WhoisChannels nick channels) = says 319 (nick ∷ []) (spaced (map on_channel channels.items))
-table (ListRow channel count topic) = says 322 (channel ∷ decimal count ∷ []) topic.items
-table ListEnd = says 323 [] (codes "End of LIST")
-table (ChannelModeIs channel modes key limit) = bare 324
-    (mode_words channel modes.items key (option_map decimal limit))
-table (NoTopic channel) = says 331 (channel ∷ []) (codes "No topic is set")
-table (Topic channel topic) = says 332 (channel ∷ []) topic.items
-table (Inviting channel nick) = bare 341 (channel ∷ nick ∷ [])
-table (WhoReply channel user host server nick mark hops real) = says 352
-    (unwrap_or channel (codes "*") ∷ user ∷ host ∷ server ∷ nick
-    ∷ (codes "H" ++ mark_text mark) ∷ [])
-    (in_a_row (decimal hops ∷ codes " " ∷ real ∷ []))
-table (NamReply visibility channel names) =
-    says 353 (visibility_text visibility ∷ channel ∷ []) (spaced (map marked_nick names))
-table (EndOfNames name) = says 366 (name.items ∷ []) (codes "End of NAMES list")
-table (BanList channel mask) = bare 367 (channel ∷ mask ∷ [])
-table (EndOfBanList channel) = says 368 (channel ∷ []) (codes "End of channel ban list")
-table (NoSuchNick name) = says 401 (name.items ∷ []) (codes "No such nick/channel")
-table (NoSuchChannel name) = says 403 (name.items ∷ []) (codes "No such channel")
-table (CannotSendToChan channel) = says 404 (channel ∷ []) (codes "Cannot send to channel")
-table (TooManyChannels channel) =
-    says 405 (channel ∷ []) (codes "You have joined too many channels")
-table (TooManyTargets target) = says 407 (target.items ∷ []) (codes "Too many targets")
-table NoOrigin = says 409 [] (codes "No origin specified")
-table (NoRecipient command) =
-    says 411 [] (in_a_row (codes "No recipient given (" ∷ command.items ∷ codes ")" ∷ []))
-table NoTextToSend = says 412 [] (codes "No text to send")
-table (UnknownCommand command) = says 421 (command.items ∷ []) (codes "Unknown command")
-table NoMotd = says 422 [] (codes "MOTD File is missing")
-table NoNicknameGiven = says 431 [] (codes "No nickname given")
-table (ErroneousNickname nick) = says 432 (nick.items ∷ []) (codes "Erroneous nickname")
-table (NicknameInUse nick) = says 433 (nick ∷ []) (codes "Nickname is already in use")
-table (UserNotInChannel nick channel) =
-    says 441 (nick.items ∷ channel ∷ []) (codes "They aren't on that channel")
-table (NotOnChannel channel) = says 442 (channel ∷ []) (codes "You're not on that channel")
-table (UserOnChannel nick channel) = says 443 (nick ∷ channel ∷ []) (codes "is already on channel")
-table NotRegistered = says 451 [] (codes "You have not registered")
-table (NeedMoreParams command) = says 461 (command.items ∷ []) (codes "Not enough parameters")
-table AlreadyRegistered = says 462 [] (codes "Unauthorized command (already registered)")
-table (KeySet channel) = says 467 (channel ∷ []) (codes "Channel key already set")
-table (ChannelIsFull channel) = says 471 (channel ∷ []) (codes "Cannot join channel (+l)")
-table (UnknownMode mode channel) =
-    says 472 ((mode ∷ []) ∷ []) (in_a_row (codes "is unknown mode char to me for " ∷ channel ∷ []))
-table (InviteOnlyChan channel) = says 473 (channel ∷ []) (codes "Cannot join channel (+i)")
-table (BannedFromChan channel) = says 474 (channel ∷ []) (codes "Cannot join channel (+b)")
-table (BadChannelKey channel) = says 475 (channel ∷ []) (codes "Cannot join channel (+k)")
-table (BanListFull channel) = says 478 (channel ∷ codes "b" ∷ []) (codes "Channel list is full")
-table (ChanOPrivsNeeded channel) = says 482 (channel ∷ []) (codes "You're not channel operator")
-table UModeUnknownFlag = says 501 [] (codes "Unknown MODE flag")
-table UsersDontMatch = says 502 [] (codes "Cannot change mode for other users")
+table reply = record { number = (row reply).number; words = row_words (row reply) }
 
 -- a number below a thousand in three digits
 abbrev pub three_digits : ℕ → List ℕ

@@ -3,8 +3,8 @@
 
 pub mod laws;
 pub mod limits;
-mod longer_lines;
 mod name_list;
+mod pieces;
 mod replies;
 mod table;
 mod texts;

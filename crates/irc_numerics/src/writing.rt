@@ -1,23 +1,29 @@
 //! Replies written as lines.
-ghost use Rattle.std.specs.Prelude.{◌≡◌, ℕ, ◌<◌, List, [], ◌∷◌, ◌++◌, length};
+ghost use Rattle.std.specs.Prelude.{◌≡◌, ◌+◌, ◌<◌, [], ◌∷◌, ◌++◌, map};
 ghost use Rattle.irc_line.specs.Bytes.{cut, space};
-ghost use Rattle.irc_line.specs.PartViews.{words_now};
-ghost use Rattle.irc_line.specs.MessageViews.{optional_now, params_now};
-ghost use Rattle.irc_numerics.specs.Loops.Heads.{line_behind};
-ghost use Rattle.irc_numerics.specs.Replies.{reply_text, plain, said, saying, in_a_row, mark_text};
+ghost use Rattle.irc_line.specs.MessageViews.{optional_now};
+ghost use Rattle.irc_numerics.specs.Loops.Heads.{line_behind, row_now, one_text, piece_now};
+ghost use Rattle.irc_numerics.specs.Replies.{reply_text, three_digits, mark_text};
 
-use crate::replies::{MemberMark, Reply};
+use crate::pieces::{Piece, push_each, push_text};
+use crate::replies::{ClientWords, MemberMark, Reply};
 use crate::table::table_line;
 use arrayvec::ArrayVec;
-use irc_line::limits::{MAX_LINE, MAX_PARAMETERS};
-use irc_line::{Line, Parts, Prefix, Text, write_message};
+use irc_line::limits::MAX_LINE;
+use irc_line::{Line, Prefix, Text, push_cut, push_prefix};
 use irc_names::{ChannelName, Nick, ServerName, first_bytes};
 
 const NO_NAME: &[u8] = b"*";
 
+const LINE_END: &[u8] = b"\r\n";
+
+/// The first number that has more than three digits.
+const END_OF_NUMBERS: u16 = 1000;
+
 /// The line of a reply to a client, from its own server (RFC 2812 section 5). The reply name is the
 /// client's nickname, or `*` before it has one. A line that would be longer than a line can be is
 /// cut.
+#[tactic(auto, unfolding(crate::specs::Loops::Heads::line_behind, crate::specs::Replies::reply_number, crate::specs::Replies::words))]
 pub fn reply_line(server: &ServerName, nick: Option<&Nick>, reply: &Reply) -> Text
     ensures { result.items ≡ reply_text server.now (optional_now nick.entry) reply.now }
 {
@@ -40,94 +46,75 @@ pub(crate) struct ReplyHead<'a> {
 }
 
 impl ReplyHead<'_> {
-    /// A reply of words without a space.
-    pub(crate) fn plain(self, number: &[u8], words: &[&[u8]]) -> Text
-        requires { length words.now < MAX_PARAMETERS }
-        ensures { result.items ≡ line_behind self.entry number.now (plain (words_now words.now)) }
+    /// The line of a row of a text of the server's own.
+    pub(crate) fn said(self, number: u16, text: &str) -> Text
+        requires { number < END_OF_NUMBERS }
+        ensures { result.items ≡ line_behind self.entry (one_text number [] text.now) }
     {
-        self.write(number, words, None)
+        self.says(number, &[], text)
     }
 
-    /// A reply of a text alone.
-    pub(crate) fn said(self, number: &[u8], text: &[u8]) -> Text
-        ensures { result.items ≡ line_behind self.entry number.now (said text.now) }
+    /// The line of a row of a channel and such a text.
+    pub(crate) fn on(self, number: u16, channel: &ChannelName, text: &str) -> Text
+        requires { number < END_OF_NUMBERS }
+        ensures { result.items
+            ≡ line_behind self.entry (one_text number (channel.now ∷ []) text.now) }
     {
-        self.write(number, &[], Some(text))
+        self.says(number, &[Piece::Bytes(channel.as_bytes())], text)
     }
 
-    /// A reply of words without a space, and a text.
-    pub(crate) fn saying(self, number: &[u8], words: &[&[u8]], text: &[u8]) -> Text
-        requires { length words.now < MAX_PARAMETERS }
-        ensures { result.items ≡ line_behind self.entry number.now
-            (saying (words_now words.now) text.now) }
+    /// The line of a row of a client's words and such a text.
+    pub(crate) fn about(self, number: u16, words: &ClientWords, text: &str) -> Text
+        requires { number < END_OF_NUMBERS }
+        ensures { result.items
+            ≡ line_behind self.entry (one_text number (words.now.items ∷ []) text.now) }
     {
-        self.write(number, words, Some(text))
+        self.says(number, &[Piece::Bytes(words)], text)
     }
 
-    /// A reply of a channel's name, and a text.
-    pub(crate) fn on(self, number: &[u8], channel: &ChannelName, text: &[u8]) -> Text
-        ensures { result.items ≡ line_behind self.entry number.now
-            (saying (channel.now ∷ []) text.now) }
+    /// The line of a row of words and such a text.
+    pub(crate) fn says(self, number: u16, words: &[Piece<'_>], text: &str) -> Text
+        requires { number < END_OF_NUMBERS }
+        ensures { result.items
+            ≡ line_behind self.entry (one_text number (map piece_now words.now) text.now) }
     {
-        self.saying(number, &[channel.as_bytes()], text)
+        self.row(number, words, Some(&[Piece::Bytes(text.as_bytes())]))
     }
 
-    /// A reply of words without a space, and a text in pieces.
-    pub(crate) fn telling(self, number: &[u8], words: &[&[u8]], pieces: &[&[u8]]) -> Text
-        requires { length words.now < MAX_PARAMETERS }
-        ensures { result.items ≡ line_behind self.entry number.now
-            (saying (words_now words.now) (in_a_row (words_now pieces.now))) }
+    /// The line of a row: a number, words, and the pieces of a text.
+    #[tactic(auto, unfolding(crate::specs::Loops::Heads::line_behind))]
+    pub(crate) fn row(self, number: u16, words: &[Piece<'_>], text: Option<&[Piece<'_>]>) -> Text
+        requires { number < END_OF_NUMBERS }
+        ensures { result.items ≡ line_behind self.entry (row_now number words.now text.entry) }
     {
-        let text = joined(pieces);
-        self.cut_text(number, words, &text)
-    }
-
-    /// A reply of words without a space, and a text of which no line has room for more.
-    pub(crate) fn cut_text(self, number: &[u8], words: &[&[u8]], text: &Line) -> Text
-        requires { length words.now < MAX_PARAMETERS }
-        ensures { (whole : List ℕ) → text.now.items ≡ cut whole
-            → result.items ≡ line_behind self.entry number.now
-            (saying (words_now words.now) whole) }
-    {
-        self.write(number, words, Some(text.as_slice()))
-    }
-
-    #[tactic(auto, unfolding(crate::specs::Replies::numbered))]
-    fn write(self, number: &[u8], words: &[&[u8]], last: Option<&[u8]>) -> Text
-        requires { length words.now < MAX_PARAMETERS }
-        ensures { result.items ≡ line_behind self.entry number.now
-            (record { middle = words_now words.now; last = optional_now last.entry }) }
-    {
-        let middle = behind(self.name, words);
-        write_message(&Parts {
-            prefix: Prefix::Name(self.server),
-            command: number,
-            middle: &middle,
-            last,
-        })
+        let mut line = ArrayVec::new();
+        push_prefix(&mut line, &Prefix::Name(self.server));
+        push_cut(&mut line, &digits_of(number));
+        push_cut(&mut line, b" ");
+        push_cut(&mut line, self.name);
+        push_each(&mut line, b" ", words);
+        push_text(&mut line, text);
+        let _ = line.try_extend_from_slice(LINE_END);
+        line
     }
 }
 
-/// The words behind a name.
-fn behind<'a>(name: &'a [u8], words: &[&'a [u8]]) -> ArrayVec<&'a [u8], MAX_PARAMETERS>
-    requires { length words.now < MAX_PARAMETERS }
-    ensures { params_now result ≡ name.now ∷ words_now words.now }
+fn digits_of(number: u16) -> [u8; 3]
+    requires { number < END_OF_NUMBERS }
+    ensures { result ≡ three_digits number }
 {
-    let mut all = ArrayVec::new();
-    all.push(name);
-    let _ = all.try_extend_from_slice(words);
-    all
+    [
+        digit(number / 100),
+        digit(number / 10 % 10),
+        digit(number % 10),
+    ]
 }
 
-/// The pieces in a row, as far as a line has room.
-fn joined(pieces: &[&[u8]]) -> Line
-    ensures { result.items ≡ cut (in_a_row (words_now pieces.now)) }
+fn digit(value: u16) -> u8
+    requires { value < 10 }
+    ensures { result ≡ 48 + value }
 {
-    let mut text = ArrayVec::new();
-    for piece in pieces {
-        push(&mut text, piece);
-    }
-    text
+    b'0' + value as u8
 }
 
 /// Appends bytes, and drops those past [`MAX_LINE`].

@@ -13,7 +13,7 @@ use Rattle.std.specs.declared.cmp.Ordering.{Ordering}
 use Rattle.std.specs.declared.cmp.Ordering.TheVariants.{Less, Equal, Greater}
 use Rattle.std.proofs.lemmas.Bool.{and_from, or_from}
 use Rattle.irc_net.specs.ByteNetwork.{ByteNetwork}
-use Rattle.irc_net.specs.Whole.{no_wires}
+use Rattle.irc_net.specs.Whole.{no_pipes}
 use Rattle.irc_net.specs.Making.{IsMadeOf, config_name, new_node}
 use Rattle.irc_net.specs.Network.{Network, Node}
 use Rattle.irc_relay.specs.Links.{Name}
@@ -121,6 +121,6 @@ made_first names configs net are made =
     recursion_from_All (IsOwnConfig names) made.ordered
     (All-permutation (IsOwnConfig names) configs made.ordered made.same_ones
     (All-from_recursion (IsOwnConfig names) configs are.each)) in
-    made.network_is ∙ ap (λ nodes. no_wires (with_names (map config_name made.ordered) nodes))
+    made.network_is ∙ ap (λ nodes. no_pipes (with_names (map config_name made.ordered) nodes))
     (nodes_are names made.ordered all)
-    ∙ ap (λ ns. no_wires (with_names ns (map (first_node names) ns))) ordered
+    ∙ ap (λ ns. no_pipes (with_names ns (map (first_node names) ns))) ordered

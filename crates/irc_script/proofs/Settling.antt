@@ -12,15 +12,15 @@ use Rattle.irc_net.specs.ByteNetwork.{ByteNetwork, is_byte_rest}
 use Rattle.irc_net.specs.Turns.{TurnsGo, lines_in_turn, none_yet, turn_first, turn_in, turn_taken}
 use Rattle.irc_net.specs.Calls.{NetView, Settles, standing}
 use Rattle.irc_net.specs.Network.{Progress, Receipt, max_count}
-use Rattle.irc_wires.specs.Wires.{Direction, LinkWire, Wires, are_still, are_still_in, first_from}
-use Rattle.irc_wires.specs.Wires.{first_in, has_byte, is_none, is_still, wire_in}
+use Rattle.irc_pipes.specs.Pipes.{Direction, LinkPipe, Pipes, are_still, are_still_in, first_from}
+use Rattle.irc_pipes.specs.Pipes.{first_in, has_byte, is_none, is_still, pipe_in}
 use Rattle.irc_script.specs.RunLaws.{SettlesToRest}
 use Rattle.irc_script.specs.Runs.{end, move, nothing, request}
 
 -- ---- at rest no turn is taken
 
-still_has_none : (wire : LinkWire) → is_still wire ≡ true → has_byte wire ≡ false
-still_has_none wire still = ap not (first_so (is_none wire.bytes) (has_nothing wire.begun) still)
+still_has_none : (pipe : LinkPipe) → is_still pipe ≡ true → has_byte pipe ≡ false
+still_has_none pipe still = ap not (first_so (is_none pipe.bytes) (has_nothing pipe.begun) still)
 
 none_found : (p q : ℕ → Bool) → ((n : ℕ) → p n ≡ true → q n ≡ false) → (numbers : List ℕ)
     → list_all p numbers ≡ true → find q numbers ≡ None
@@ -29,25 +29,25 @@ none_found p q not_so (n ∷ numbers) all =
     ap (λ b. cond b (Some n) (find q numbers)) (not_so n (first_so (p n) (list_all p numbers) all))
     ∙ none_found p q not_so numbers (second_so (p n) (list_all p numbers) all)
 
-none_in : (row : FinMap nat_cmp LinkWire) → are_still_in row ≡ true → first_in row ≡ None
+none_in : (row : FinMap nat_cmp LinkPipe) → are_still_in row ≡ true → first_in row ≡ None
 none_in row still =
-    none_found (λ to. is_still (wire_in to row)) (λ to. has_byte (wire_in to row))
-    (λ to. still_has_none (wire_in to row)) (keys row) still
+    none_found (λ to. is_still (pipe_in to row)) (λ to. has_byte (pipe_in to row))
+    (λ to. still_has_none (pipe_in to row)) (keys row) still
 
-none_from : (place : ℕ) (wires : Wires) → are_still wires ≡ true → first_from place wires ≡ None
+none_from : (place : ℕ) (pipes : Pipes) → are_still pipes ≡ true → first_from place pipes ≡ None
 none_from place [] still = refl
-none_from place (row ∷ wires) still =
+none_from place (row ∷ pipes) still =
     ap (λ (o : Option ℕ). option_map_or (λ to. Some (way place to)) o
-    (first_from (place + 1) wires))
-    (none_in row (first_so (are_still_in row) (are_still wires) still))
-    ∙ none_from (place + 1) wires (second_so (are_still_in row) (are_still wires) still)
+    (first_from (place + 1) pipes))
+    (none_in row (first_so (are_still_in row) (are_still pipes) still))
+    ∙ none_from (place + 1) pipes (second_so (are_still_in row) (are_still pipes) still)
   where
     way : ℕ → ℕ → Direction
     way from to = record { from = from; to = to }
 
 no_turn : (progress : Progress ByteNetwork) → is_byte_rest progress.state ≡ true
     → turn_taken progress ≡ None
-no_turn progress rest = ap (option_map (turn_in progress)) (none_from 0 progress.state.wires rest)
+no_turn progress rest = ap (option_map (turn_in progress)) (none_from 0 progress.state.pipes rest)
 
 never_on : (progress : Progress ByteNetwork) {between : Progress ByteNetwork}
     → is_byte_rest progress.state ≡ true → turn_taken progress ≡ Some between → ⊥

@@ -5,14 +5,14 @@ use Rattle.std.specs.List.{filter_map}
 use Rattle.std.specs.Option.{option_and_then, option_map_or}
 use Rattle.irc_net.specs.ByteNetwork.{ByteNetwork}
 use Rattle.irc_net.specs.declared.fault.NetFault.{NetFault}
-use Rattle.irc_net.specs.Calls.{delivery, line_between, piece_between, wire_between}
+use Rattle.irc_net.specs.Calls.{delivery, line_between, piece_between, pipe_between}
 use Rattle.irc_net.specs.Faults.{deliver_fault, item_fault}
 use Rattle.irc_net.specs.Laws.{SettingsStay}
 use Rattle.irc_net.specs.Network.{Progress, LinkPlaces, begun, link_places}
 use Rattle.irc_net.specs.SetUp.{setting_at, settings_of}
 use Rattle.irc_net.specs.World.{Setting}
 use Rattle.irc_relay.specs.Links.{Name}
-use Rattle.irc_wires.specs.Wires.{has_byte, through_line_feed}
+use Rattle.irc_pipes.specs.Pipes.{has_byte, through_line_feed}
 use Rattle.irc_script.specs.Moves.{Move, gives, delivers_line, takes_bytes, settles_all}
 use Rattle.irc_script.specs.Networks.{first_net, first_node, in_name_order, script_setting}
 use Rattle.irc_script.specs.Networks.{script_settings}
@@ -42,10 +42,10 @@ module _ (law : SettingsStay) where
       → option_and_then (line_between first) o ≡ Some progress
       → settings_of progress.state.network ≡ settings_of first.network
   line_set_up first None progress is = absurd (cc is)
-  line_set_up first (Some ends) progress is = by (has_byte (wire_between first ends)) is
+  line_set_up first (Some ends) progress is = by (has_byte (pipe_between first ends)) is
     where
       count : ℕ
-      count = through_line_feed (wire_between first ends).bytes
+      count = through_line_feed (pipe_between first ends).bytes
 
       same_some : (a b : Progress ByteNetwork) → Some a ≡ Some b → a ≡ b
       same_some a b e = cc e

@@ -7,12 +7,12 @@ use Rattle.std.specs.Option.{option_and_then, option_map_or}
 use Rattle.std.proofs.lemmas.Option.{same_Some}
 use Rattle.irc_net.specs.ByteNetwork.{ByteNetwork}
 use Rattle.irc_net.specs.declared.fault.NetFault.{NetFault}
-use Rattle.irc_net.specs.Calls.{delivery, line_between, piece_between, wire_between}
+use Rattle.irc_net.specs.Calls.{delivery, line_between, piece_between, pipe_between}
 use Rattle.irc_net.specs.Faults.{deliver_fault, item_fault}
 use Rattle.irc_net.specs.Laws.{StaysKept}
 use Rattle.irc_net.specs.OneRoom.{IsKeptSound}
 use Rattle.irc_net.specs.Network.{Progress, LinkPlaces, begun, link_places}
-use Rattle.irc_wires.specs.Wires.{has_byte, through_line_feed}
+use Rattle.irc_pipes.specs.Pipes.{has_byte, through_line_feed}
 use Rattle.irc_net.specs.WithinLimits.{IsItemWithin}
 use Rattle.irc_script.specs.Moves.{Move, gives, delivers_line, takes_bytes, settles_all, moves_of}
 use Rattle.irc_script.specs.Runs.{Comes, MoveOutcome, Plays, Runs, delivered_by, delivered_or, end}
@@ -38,10 +38,10 @@ line_kept : StaysKept → (first : ByteNetwork) (o : Option LinkPlaces)
     (progress : Progress ByteNetwork) → option_and_then (line_between first) o ≡ Some progress
     → IsKeptSound first → IsKeptSound progress.state
 line_kept laws first None progress is kept = absurd (cc is)
-line_kept laws first (Some ends) progress is kept = by (has_byte (wire_between first ends)) is
+line_kept laws first (Some ends) progress is kept = by (has_byte (pipe_between first ends)) is
   where
     count : ℕ
-    count = through_line_feed (wire_between first ends).bytes
+    count = through_line_feed (pipe_between first ends).bytes
 
     by : (b : Bool)
         → ◌≡◌ {A = Option (Progress ByteNetwork)} (if b then Some (piece_between count first ends)

@@ -8,7 +8,7 @@ use Rattle.std.specs.Ordering.{nat_cmp}
 use Rattle.std.specs.declared.cmp.Ordering.{Ordering}
 use Rattle.std.specs.declared.cmp.Ordering.TheVariants.{Greater}
 use Rattle.irc_net.specs.ByteNetwork.{ByteNetwork}
-use Rattle.irc_net.specs.Whole.{no_wires}
+use Rattle.irc_net.specs.Whole.{no_pipes}
 use Rattle.irc_net.specs.Network.{Network, Node}
 use Rattle.irc_relay.specs.Links.{Name, same}
 use Rattle.irc_room.specs.Laws.{no_room}
@@ -88,4 +88,4 @@ first_network names = record {
 
 -- the network with which a script begins: nothing is on its way
 abbrev pub first_net : List Name → ByteNetwork
-first_net names = no_wires (first_network names)
+first_net names = no_pipes (first_network names)

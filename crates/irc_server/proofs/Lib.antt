@@ -2,6 +2,7 @@ pub mod AllOf
 pub mod AllServed
 pub mod Connected
 pub mod LinesEnd
+pub mod Matched
 pub mod MetEnds
 pub mod OwnClosings
 pub mod OwnKept

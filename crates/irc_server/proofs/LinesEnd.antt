@@ -5,15 +5,18 @@ use Rattle.std.proofs.lemmas.List.{take-append-drop}
 use Rattle.std.proofs.lemmas.List.Prefix.{end_rest}
 use Rattle.std.proofs.lemmas.Slice.Eq.{bytes_eq-Decides}
 use Rattle.std.specs.FinMap.{get}
-use Rattle.std.specs.List.{list_all}
+use Rattle.std.specs.List.{AllByRecursion, list_all}
 use Rattle.irc_line.specs.Bytes.{crlf}
 use Rattle.irc_line.specs.Messages.{Written, line_text, text}
 use Rattle.irc_batch.specs.Batches.{Sent, end_of, end_of_link, line_on, line_to}
-use Rattle.irc_server.specs.Served.{served}
+use Rattle.irc_stage.specs.View.{View}
+use Rattle.irc_stage.specs.EffectTold.{Served}
+use Rattle.irc_server.specs.Served.{ReadEvent}
 use Rattle.irc_server.specs.LineEnds.{EndsInLineEnd, ServedLinesEnd, SetLinesEnd}
-use Rattle.irc_server.specs.LinesThatSet.{line_set}
+use Rattle.irc_server.specs.Moves.{Closings, IsServed}
+use Rattle.irc_server.specs.Lemmas.ServedByMoves.{served_by_moves, set_by_moves}
 use Rattle.irc_server.proofs.AllOf.{all-append, all-told}
-use Rattle.irc_server.proofs.AllServed.{Closings, IsKeptWhenServed, served_so, set_so}
+use Rattle.irc_server.proofs.AllServed.{IsKeptWhenServed, served_so}
 
 -- ---- one thing that is put out
 
@@ -47,21 +50,20 @@ AllEnded closed out = list_all is_ended out ≡ true
 stay_ended : IsKeptWhenServed is_ended AllEnded
 stay_ended = record {
   nothing = refl;
-  one_closed = λ link why. refl;
-  behind = λ closed. record {
-    on_link = text_ended;
-    to_client = λ conn line. refl;
-    closing = λ conn. refl;
-    behind = λ out sent all ended. all-append is_ended out sent ended all;
-  };
+  one_closed = λ number why. refl;
+  behind = λ closed out sent all ended. all-append is_ended out sent ended all;
+  on_link = text_ended;
+  to_client = λ conn line. refl;
+  closing = λ conn. refl;
 }
 
+served_ends : {view : View} {event : ReadEvent} {closed : Closings} {s : Served}
+    → IsServed view event closed s → AllByRecursion EndsInLineEnd s.out
+served_ends {s = s} what =
+    all-told is_ended EndsInLineEnd ends s.out (served_so is_ended AllEnded stay_ended what)
+
 pub lines_end : ServedLinesEnd
-lines_end view read_event =
-    all-told is_ended EndsInLineEnd ends (served view read_event).out
-    (served_so is_ended AllEnded stay_ended view read_event)
+lines_end view read_event = served_ends (served_by_moves view read_event)
 
 pub set_lines_end : SetLinesEnd
-set_lines_end view link read =
-    all-told is_ended EndsInLineEnd ends (line_set view link read (get view.ends link)).out
-    (set_so is_ended AllEnded stay_ended view link read (get view.ends link))
+set_lines_end view link read = served_ends (set_by_moves view link read (get view.ends link) refl)

@@ -1,26 +1,18 @@
 -- What the code does of what happens by a link is what it does to the server.
 use Rattle.std.proofs.Common.{◌≡◌, ℕ, Bool, true, false, cond, is_none, is_some, Option, Some, None}
-use Rattle.std.proofs.Common.{Result, Ok, Err, List, [], ◌∷◌, ◌++◌, refl, sym, ◌∙◌, ap, subst}
-use Rattle.std.proofs.Common.{append-nil, append_assoc, map, not, unwrap_or}
-use Rattle.std.proofs.Common.{if◌then◌else◌}
+use Rattle.std.proofs.Common.{List, [], ◌∷◌, ◌++◌, refl, sym, ◌∙◌, ap, subst, append-nil}
+use Rattle.std.proofs.Common.{append_assoc, map, not, unwrap_or}
 use Rattle.std.proofs.lemmas.List.{map-append}
 use Rattle.std.proofs.lemmas.Simd.{map-map}
 use Rattle.std.specs.Borrow.{Bor}
 use Rattle.std.specs.Cmp.{nat_cmp_total}
 use Rattle.std.specs.FinMap.{get, insert, get-insert}
 use Rattle.std.specs.Option.{option_copied, option_map_or}
-use Rattle.irc_line.specs.declared.reading.LineFault.{LineFault}
-use Rattle.irc_line.specs.declared.reading.LineFault.TheVariants as fault
-use Rattle.irc_line.specs.Messages.{Parsed, text}
+use Rattle.irc_line.specs.Messages.{text}
 use Rattle.irc_batch.specs.Batches.{line_on}
-use Rattle.irc_batch.specs.declared.close_reason.CloseReason.{CloseReason}
-use Rattle.irc_link_words.specs.declared.openings.Opening.{Opening}
-use Rattle.irc_link_words.specs.declared.openings.Opening.TheVariants as opening
 use Rattle.irc_link_words.specs.GreetingLines.{greeting, pass_parts}
-use Rattle.irc_burst.specs.DeedsMeant.{Told, a_server, deeds_meant}
-use Rattle.irc_burst.specs.HandshakeMeant.{handshake_meant}
+use Rattle.irc_burst.specs.DeedsMeant.{a_server}
 use Rattle.irc_burst_lines.specs.BurstLines.{burst_parts}
-use Rattle.irc_stage.specs.Ends.{is_met}
 use Rattle.irc_stage.specs.Ways.{IsMetEnd}
 use Rattle.irc_stage.specs.View.{End, View, password_for}
 use Rattle.irc_stage.specs.EffectTold.{Served, with_sent}
@@ -28,43 +20,8 @@ use Rattle.irc_stage.specs.Linked.{with_far}
 use Rattle.irc_stage.specs.Lemmas.Numbers.{same_number-refl}
 use Rattle.irc_stage.specs.Loops.Handling.{told_on, where_it_is}
 use Rattle.irc_server.specs.DeedTold.{told_by}
-use Rattle.irc_server.specs.Heard.{heard, met_unless, of_met, opened}
 use Rattle.irc_server.specs.LinkServed.{on_link, opening_parts, owed_by, owes}
-use Rattle.irc_server.specs.Loops.Serving.{greeting_of, lines_told, met_in, IsHearable}
-
--- what is heard at an end can be done there
-module _ (view : View) (link : ℕ) (end : End) where
-  by_met : (result : Result (List Told) CloseReason) → is_met end ≡ true
-      → IsHearable (Some end) (of_met result)
-  by_met (Ok told) met = met
-  by_met (Err why) met = tt
-
-  by_named : (refused : Option CloseReason) (name info : List ℕ)
-      → IsHearable (Some end) (met_unless refused name info)
-  by_named None name info = refl
-  by_named (Some why) name info = tt
-
-  by_opened : (result : Result Opening CloseReason)
-      → IsHearable (Some end) (opened view end result)
-  by_opened (Err why) = tt
-  by_opened (Ok (opening.Password word)) = tt
-  by_opened (Ok (opening.Greeting name info)) = by_named _ name info
-
-  by_message : (message : Parsed) (b : Bool) → is_met end ≡ b
-      → IsHearable (Some end)
-      (if b then of_met (deeds_meant view.room view.routes link message)
-      else opened view end
-      (handshake_meant (is_some end.password) view.room view.routes link message))
-  by_message message true met = by_met (deeds_meant view.room view.routes link message) met
-  by_message message false met =
-      by_opened (handshake_meant (is_some end.password) view.room view.routes link message)
-
-  pub hearable : (read : Result Parsed LineFault)
-      → IsHearable (Some end) (heard view link end read)
-  unfolding heard
-  hearable (Ok message) = by_message message (is_met end) refl
-  hearable (Err fault.Empty) = tt
-  hearable (Err why) = tt
+use Rattle.irc_server.specs.Loops.Serving.{greeting_of, lines_told, met_in}
 
 -- a link whose other end has named itself counts
 pub met_now : (view : View) (link : ℕ) (name : List ℕ) → is_some (get view.ends link) ≡ true

@@ -13,7 +13,6 @@ use Rattle.irc_routes.specs.declared.server_row.ServerRow.{ServerRow}
 use Rattle.irc_routes.specs.Known.{Known, added, smallest_free, unless_behind, without_link}
 use Rattle.irc_routes.specs.Known.{without_server}
 use Rattle.irc_stage.specs.Lemmas.Numbers.{get-with, get-without, one_number, same_number}
-use Rattle.irc_stage.specs.Lemmas.Numbers.{same_number-refl}
 
 abbrev link_of : ServerRow → ℕ
 link_of r = r.link
@@ -32,23 +31,6 @@ put_met ends known link end met counts name number is =
     by true one = counts
         (subst (λ n. IsMetEnd (get ends n)) (one_number number link one) (met name number is))
     by false two = met name number is
-
--- the end that is put in is there
-pub put_there : (ends : Ends) (link : ℕ) (end : End) → get (insert ends link end) link ≡ Some end
-put_there ends link end = get-with ends link end link
-    ∙ ap (λ b. cond b (Some end) (get ends link)) (same_number-refl link)
-
--- no link is there more than before, where one is changed
-pub put_no_more : (ends : Ends) (link : ℕ) (end : End) → is_some (get ends link) ≡ true
-    → (number : ℕ) → is_some (get (insert ends link end) number) ≡ true
-    → is_some (get ends number) ≡ true
-put_no_more ends link end here number is =
-    by (same_number number link) refl (sym (ap is_some (get-with ends link end number)) ∙ is)
-  where
-    by : (b : Bool) → same_number number link ≡ b
-        → is_some (cond b (Some end) (get ends number)) ≡ true → is_some (get ends number) ≡ true
-    by true one still = ap (λ n. is_some (get ends n)) (one_number number link one) ∙ here
-    by false two still = still
 
 pub left_no_more : (ends : Ends) (link number : ℕ) → is_some (get (remove ends link) number) ≡ true
     → is_some (get ends number) ≡ true

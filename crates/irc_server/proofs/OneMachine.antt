@@ -1,23 +1,23 @@
 -- A server is a room machine to its clients, but for who is invited; without links it is that
 -- machine.
 use Rattle.std.proofs.Common.{List, [], ◌∷◌, ◌++◌, refl, sym, ◌∙◌, ap}
-use Rattle.std.specs.FinMap.{get}
 use Rattle.irc_batch.specs.Batches.{Sent}
 use Rattle.irc_room.specs.OtherInvitations.{AlikeStayAlike}
+use Rattle.irc_room.specs.Room.{IsWellFormed}
 use Rattle.irc_routes.specs.Known.{others}
 use Rattle.irc_stage.specs.RoomMachine.{RoomMachine}
-use Rattle.irc_stage.specs.View.{machine_of}
+use Rattle.irc_stage.specs.View.{View, machine_of}
 use Rattle.irc_stage.specs.ClientTold.{client_told}
 use Rattle.irc_stage.specs.EffectTold.{Served}
 use Rattle.irc_stage.specs.Handle.{handled}
 use Rattle.irc_stage.specs.Matched.{StaysMatched}
 use Rattle.irc_stage.specs.Lemmas.Alone.{place_is_kept, told_back}
 use Rattle.irc_stage.specs.Lemmas.Twins.{matched_there, told_twins}
-use Rattle.irc_server.specs.Lemmas.Matched.{line_served_matched, link_lost_matched}
-use Rattle.irc_server.specs.Lemmas.Matched.{link_opened_matched}
+use Rattle.irc_server.specs.Lemmas.ServedByMoves.{served_by_moves}
+use Rattle.irc_server.proofs.Matched.{IsByLink, served_holds}
 use Rattle.irc_server.specs.Owed.{lines_to, lines_owed, owed_by_machine, LoneServerOwesTheSame}
-use Rattle.irc_server.specs.Served.{of_client, link_up, link_says, link_down, served}
-use Rattle.irc_server.specs.Served.{LoneServerIsOneRoom, ServedStaysMatched}
+use Rattle.irc_server.specs.Served.{ReadEvent, of_client, link_up, link_says, link_down, served}
+use Rattle.irc_server.specs.Served.{AreMatched, LoneServerIsOneRoom, ServedStaysMatched}
 
 -- ---- without links
 
@@ -50,6 +50,12 @@ owes_the_same is_one view (client_event ∷ client_events) alone conn =
 
 -- ---- clients and users stay matched
 
+by_link : (view : View) → AreMatched view → IsWellFormed view.room → (event : ReadEvent)
+    → IsByLink event → AreMatched (served view event).state
+by_link view matched well event by =
+    (served_holds by (served_by_moves view event)
+    (record { matched = matched; well = well })).matched
+
 pub served_stays_matched : AlikeStayAlike → StaysMatched → ServedStaysMatched
 unfolding served
 served_stays_matched stay stays view matched well (of_client client_event) due =
@@ -57,8 +63,8 @@ served_stays_matched stay stays view matched well (of_client client_event) due =
     (machine_of (client_told view client_event).state) (told_twins stay view client_event)
     (stays (machine_of view) matched well client_event due)
 served_stays_matched stay stays view matched well (link_up link starts) due =
-    link_opened_matched view link starts matched well
+    by_link view matched well (link_up link starts) tt
 served_stays_matched stay stays view matched well (link_says link read) due =
-    line_served_matched view link read (get view.ends link) matched well
+    by_link view matched well (link_says link read) tt
 served_stays_matched stay stays view matched well (link_down link) due =
-    link_lost_matched view link matched well
+    by_link view matched well (link_down link) tt

@@ -1,17 +1,17 @@
 -- Whatever is served, just the link by which a line came is closed that has a reason to be, or one
 -- that is opened to nobody known.
-use Rattle.std.proofs.Common.{◌≡◌, ℕ, Bool, true, false, Option, Result, List, [], ◌∷◌, ◌++◌, refl}
-use Rattle.std.proofs.Common.{append-nil, ◌∙◌, ap}
+use Rattle.std.proofs.Common.{◌≡◌, Bool, true, false, List, [], ◌∷◌, ◌++◌, refl, append-nil, ◌∙◌}
+use Rattle.std.proofs.Common.{ap}
 use Rattle.std.proofs.lemmas.List.Elements.{filter_map-append}
 use Rattle.std.specs.List.{list_all}
 use Rattle.irc_batch.specs.Batches.{Sent, end_of, end_of_link, line_on, line_to}
-use Rattle.irc_line.specs.declared.reading.LineFault.{LineFault}
-use Rattle.irc_line.specs.Messages.{Parsed}
-use Rattle.irc_stage.specs.View.{End, View}
-use Rattle.irc_server.specs.Closings.{ServedClosesItsOwn, closing_by_line, closing_of}
-use Rattle.irc_server.specs.Closings.{link_closings}
-use Rattle.irc_server.specs.LinesThatSet.{line_set, read_at}
-use Rattle.irc_server.proofs.AllServed.{Closings, IsKeptWhenServed, closing_set, served_so, set_so}
+use Rattle.irc_stage.specs.View.{View}
+use Rattle.irc_stage.specs.EffectTold.{Served}
+use Rattle.irc_server.specs.Served.{ReadEvent}
+use Rattle.irc_server.specs.Closings.{ServedClosesItsOwn, closing_of, link_closings}
+use Rattle.irc_server.specs.Moves.{Closings, IsServed}
+use Rattle.irc_server.specs.Lemmas.ServedByMoves.{served_by_moves}
+use Rattle.irc_server.proofs.AllServed.{IsKeptWhenServed, served_so}
 
 -- whether it closes no link, as a test
 abbrev is_no_closing : Sent → Bool
@@ -38,21 +38,17 @@ AreClosings closed out = link_closings out ≡ closed
 stay_closed : IsKeptWhenServed is_no_closing AreClosings
 stay_closed = record {
   nothing = refl;
-  one_closed = λ link why. refl;
-  behind = λ closed. record {
-    on_link = λ link parts. refl;
-    to_client = λ conn line. refl;
-    closing = λ conn. refl;
-    behind = closes_behind closed;
-  };
+  one_closed = λ number why. refl;
+  behind = closes_behind;
+  on_link = λ number parts. refl;
+  to_client = λ conn line. refl;
+  closing = λ conn. refl;
 }
 
-pub closes_its_own : ServedClosesItsOwn
-closes_its_own = served_so is_no_closing AreClosings stay_closed
+-- just those are closed that are said to be
+pub served_closes : {view : View} {event : ReadEvent} {closed : Closings} {s : Served}
+    → IsServed view event closed s → link_closings s.out ≡ closed
+served_closes what = served_so is_no_closing AreClosings stay_closed what
 
--- so it is of a line by which a server sets
-pub set_closes : (view : View) (link : ℕ) (read : Result Parsed LineFault) (end : Option End)
-    → link_closings (line_set view link read end).out
-    ≡ closing_set link (closing_by_line view link read end) (read_at view link read end)
-set_closes view link read end =
-    set_so is_no_closing AreClosings stay_closed view link read end
+pub closes_its_own : ServedClosesItsOwn
+closes_its_own view read_event = served_closes (served_by_moves view read_event)

@@ -1,280 +1,172 @@
--- What holds of all that a server has put out, whatever it serves: where it holds still behind
--- things that pass a test, and lines on links, lines to clients and closings of clients pass it.
-use Rattle.std.proofs.Common.{◌≡◌, ℕ, Bool, true, false, Option, Some, None, Ok, Err, List, [], ◌∷◌}
-use Rattle.std.proofs.Common.{◌++◌, filter_map, refl, if◌then◌else◌}
-use Rattle.std.specs.FinMap.{entries, get}
+-- What a move puts out goes behind what was put out before, and passes each test that lines to
+-- clients, ends of clients and lines on links pass.
+use Rattle.std.proofs.Common.{◌≡◌, ℕ, Bool, true, false, Option, None, List, [], ◌∷◌, ◌++◌, refl}
+use Rattle.std.proofs.Common.{sym, ◌∙◌, ap, append-nil, append_assoc, if◌then◌else◌}
+use Rattle.std.specs.FinMap.{entries}
 use Rattle.std.specs.List.{flat_map, list_all}
-use Rattle.irc_names.specs.Fold.{key}
-use Rattle.irc_names.specs.Tables.{row}
-use Rattle.irc_line.specs.Messages.{Parsed, Written, text}
+use Rattle.irc_line.specs.Messages.{Written, text}
 use Rattle.irc_batch.specs.Batches.{Sent, end_of, line_on, line_to}
-use Rattle.irc_users.specs.declared.user.User.{User}
-use Rattle.irc_numerics.specs.Replies.{reply_text}
+use Rattle.irc_commands.specs.Closing.{error_line}
 use Rattle.irc_room.specs.effect.Effect.{Effect}
 use Rattle.irc_room.specs.effect.Effect.TheVariants.{Quit}
-use Rattle.irc_room.specs.Effects.{has_user}
 use Rattle.irc_room.specs.Seen.{Showing, seen}
-use Rattle.irc_routes.specs.Known.{place_of}
-use Rattle.irc_acts.specs.declared.act.Act.{Act}
-use Rattle.irc_acts.specs.declared.act.Act.TheVariants.{Answer, Raw, Do}
-use Rattle.irc_commands.specs.Decide.{decide}
-use Rattle.irc_commands.specs.Register.{register}
-use Rattle.irc_merge.specs.Deeds.{Deed, does, gains, loses, kills, brings, sets, tops, effects_of}
-use Rattle.irc_merge.specs.Quits.{collision_text}
-use Rattle.irc_burst.specs.DeedsMeant.{Told, a_deed, a_server}
-use Rattle.irc_burst_lines.specs.DeedLines.{deed_parts}
 use Rattle.irc_link_writer.specs.Written.{wire}
-use Rattle.irc_stage.specs.Ways.{but, met_links}
 use Rattle.irc_stage.specs.declared.clients.Client.{Client}
-use Rattle.irc_stage.specs.declared.clients.Client.TheVariants.{Registering, Registered}
-use Rattle.irc_stage.specs.RoomMachine.{Clients, client_of}
-use Rattle.irc_stage.specs.View.{View, machine_of}
-use Rattle.irc_stage.specs.Handle.{ClientEvent, connects, says, goes, client_after, is_client}
-use Rattle.irc_stage.specs.Handle.{lost_text, to_viewer, user_of}
-use Rattle.irc_stage.specs.EffectTold.{Served, all_changed, changed, changed_if, counts}
-use Rattle.irc_stage.specs.EffectTold.{effect_came, effect_told, ends_of, in_silence, is_elsewhere}
-use Rattle.irc_stage.specs.EffectTold.{on_links, quit_by, shown_at, taken_out, ways_at, with_sent}
-use Rattle.irc_stage.specs.Linked.{is_taken, told_on_all, with_row}
-use Rattle.irc_stage.specs.ClientTold.{client_told, closed_told, message_told, quit_told, seated}
-use Rattle.irc_stage.specs.ClientTold.{step_told, steps_told, unseated, user_told}
-use Rattle.irc_server.specs.DeedTold.{all_told, arrival_of, deed_told, deeds_told, forgotten}
-use Rattle.irc_server.specs.DeedTold.{gain_told, link_lost, lost_behind, titled_view, told_by}
-use Rattle.irc_server.specs.LinkServed.{on_link}
-use Rattle.irc_server.specs.declared.setting.Setting.{Setting}
-use Rattle.irc_server.specs.declared.setting.Setting.TheVariants as setting
-use Rattle.irc_server.specs.LinesThatSet.{setting_effects, setting_parts, setting_told, spelled_by}
+use Rattle.irc_stage.specs.Ways.{but, told_homes, ways_toward}
+use Rattle.irc_stage.specs.View.{View}
+use Rattle.irc_stage.specs.Handle.{is_client, to_viewer}
+use Rattle.irc_stage.specs.EffectTold.{Served, changed, client_ended, effect_told, ends_of}
+use Rattle.irc_stage.specs.EffectTold.{is_elsewhere, on_links, shown_at, ways_at}
+use Rattle.irc_server.specs.Connected.{has_client}
+use Rattle.irc_server.specs.Moves.{Mover, by_client, by_link, Move, answers, does, comes, shows}
+use Rattle.irc_server.specs.Moves.{takes_out, tells_on, learns, forgets, respells, Moves}
+use Rattle.irc_server.specs.Lemmas.ServedByMoves.{kept}
 use Rattle.irc_server.proofs.AllOf.{all-append, all-each, all-flat, all-one, all-picked}
 use Rattle.irc_server.proofs.AllOf.{all_entries}
-use Rattle.irc_commands.specs.Closing.{error_line}
 
--- ---- all that has been put out
+-- ---- a test
 
--- The test: what holds of all that was put out holds still behind what passes it.
-pub record IsKeptBehind (test : Sent → Bool) (Holds : List Sent → Type 0) : Type 0 where
-  pub on_link : (link : ℕ) (parts : Written) → test (line_on link (text parts)) ≡ true
-  pub to_client : (conn : ℕ) (line : List ℕ) → test (line_to conn line) ≡ true
-  pub closing : (conn : ℕ) → test (end_of conn) ≡ true
-  pub behind : (out sent : List Sent) → list_all test sent ≡ true → Holds out → Holds (out ++ sent)
+-- the link on which it does not go back
+abbrev pub came_by : Mover → Option ℕ
+came_by (by_client conn) = None
+came_by (by_link arrival) = arrival
 
-module _ (test : Sent → Bool) (Holds : List Sent → Type 0) (keeps : IsKeptBehind test Holds) where
-  abbrev pub HoldsAt : Served → Type 0
-  HoldsAt s = Holds s.out
+-- what a move puts out in this view passes
+pub record Passes (By : Mover → Type 0) (test : Sent → Bool) (view : View) : Type 0 where
+  pub to_client : (conn : ℕ) (line : List ℕ) → has_client view conn ≡ true
+      → test (line_to conn line) ≡ true
+  pub closing : (conn : ℕ) → has_client view conn ≡ true → test (end_of conn) ≡ true
+  pub on_ways : (mover : Mover) → By mover → (homes : Option (List (List ℕ))) (parts : Written)
+      → list_all test (on_links (but (came_by mover) (ways_toward view.ends view.routes homes))
+      parts) ≡ true
 
-  -- it holds still
-  abbrev pub Stays : (Served → Served) → Type 0
-  Stays serve = (s : Served) → HoldsAt s → HoldsAt (serve s)
+-- it does in every view where each such thing passes
+pub always_passes : (By : Mover → Type 0) (test : Sent → Bool)
+    → ((number : ℕ) (parts : Written) → test (line_on number (text parts)) ≡ true)
+    → ((conn : ℕ) (line : List ℕ) → test (line_to conn line) ≡ true)
+    → ((conn : ℕ) → test (end_of conn) ≡ true) → (view : View) → Passes By test view
+always_passes By test on_link to_client closing view = record {
+  to_client = λ conn line is. to_client conn line;
+  closing = λ conn is. closing conn;
+  on_ways = λ mover by homes parts. all-each test (λ number. line_on number (text parts))
+      (λ number. on_link number parts)
+      (but (came_by mover) (ways_toward view.ends view.routes homes));
+}
 
-  pub sent_stays : (sent : List Sent) → list_all test sent ≡ true → Stays (with_sent sent)
-  sent_stays sent all s holds = keeps.behind s.out sent all holds
+-- ---- what is put out
 
-  one_stays : (sent : Sent) → test sent ≡ true → Stays (with_sent (sent ∷ []))
-  one_stays sent passes = sent_stays (sent ∷ []) (all-one test sent passes)
+pub record PutsOut (test : Sent → Bool) (s t : Served) : Type 0 where
+  pub more : List Sent
+  pub behind : t.out ≡ s.out ++ more
+  pub all : list_all test more ≡ true
 
-  links_stays : (links : List ℕ) (parts : Written) → Stays (with_sent (on_links links parts))
-  links_stays links parts =
-      sent_stays (on_links links parts) (all-each test (λ link. line_on link (text parts))
-      (λ link. keeps.on_link link parts) links)
+nothing_out : (test : Sent → Bool) (s t : Served) → t.out ≡ s.out → PutsOut test s t
+nothing_out test s t same =
+    record { more = []; behind = same ∙ sym (append-nil s.out); all = refl }
 
-  pub on_link_stays : (link : ℕ) (lines : List Written) → Stays (with_sent (on_link link lines))
-  on_link_stays link lines = sent_stays (on_link link lines)
-      (all-each test (λ parts. line_on link (text parts)) (keeps.on_link link) lines)
+then_out : (test : Sent → Bool) (s t u : Served) → PutsOut test s t → PutsOut test t u
+    → PutsOut test s u
+then_out test s t u one two = record {
+  more = one.more ++ two.more;
+  behind = two.behind ∙ ap (λ out. out ++ two.more) one.behind
+      ∙ append_assoc s.out one.more two.more;
+  all = all-append test one.more two.more one.all two.all;
+}
 
-  all_stays : (arrival : Option ℕ) (parts : Written) → Stays (told_on_all arrival parts)
-  all_stays arrival parts s = links_stays (but arrival (met_links s.state.ends)) parts s
+-- lines to clients that are there
+module _ (test : Sent → Bool) (view : View)
+    (passes : (conn : ℕ) (line : List ℕ) → has_client view conn ≡ true
+    → test (line_to conn line) ≡ true) where
+  pub viewers_pass : (showing : Showing) → list_all test (to_viewer view.clients showing) ≡ true
+  viewers_pass showing =
+      all-picked (λ (c : ℕ × Client). has_client view c.0) test
+      (λ (c : ℕ × Client). is_client showing.viewer c.1)
+      (λ (c : ℕ × Client). line_to c.0 showing.line) (λ c is. passes c.0 showing.line is)
+      (entries view.clients) (all_entries view.clients (has_client view) (λ conn is. is))
 
-  -- something for some of the clients, and never on a link
-  clients_stays : (clients : Clients) (b : ℕ × Client → Bool) (g : ℕ × Client → Sent)
-      → ((c : ℕ × Client) → test (g c) ≡ true) → list_all test
-      (filter_map (λ (c : ℕ × Client). if b c then Some (g c) else None) (entries clients)) ≡ true
-  clients_stays clients b g holds =
-      all-picked (λ (c : ℕ × Client). true) test b g (λ c is. holds c) (entries clients)
-      (all_entries clients (λ conn. true) (λ conn is. refl))
-
-  viewers_stays : (clients : Clients) (showing : Showing)
-      → list_all test (to_viewer clients showing) ≡ true
-  viewers_stays clients showing =
-      clients_stays clients (λ (c : ℕ × Client). is_client showing.viewer c.1)
-      (λ (c : ℕ × Client). line_to c.0 showing.line) (λ c. keeps.to_client c.0 showing.line)
-
-  -- ---- effects
-
-  changed_stays : (effect : Effect) → Stays (changed effect)
-  changed_stays effect s holds =
-      keeps.behind s.out (shown_at s.state effect) (by (is_elsewhere s.state effect)) holds
+  pub shown_pass : (effect : Effect) → list_all test (shown_at view effect) ≡ true
+  shown_pass effect = either (is_elsewhere view effect)
     where
-      by : (b : Bool) → list_all test
-          (if b then [] else flat_map (to_viewer s.state.clients) (seen s.state.room effect)) ≡ true
-      by true = refl
-      by false = all-flat test (to_viewer s.state.clients) (viewers_stays s.state.clients)
-          (seen s.state.room effect)
+      either : (b : Bool) → list_all test
+          (if b then [] else flat_map (to_viewer view.clients) (seen view.room effect)) ≡ true
+      either true = refl
+      either false = all-flat test (to_viewer view.clients) viewers_pass (seen view.room effect)
 
-  effect_stays : (arrival : Option ℕ) (effect : Effect) → Stays (effect_told arrival effect)
-  effect_stays arrival effect s holds =
-      links_stays (ways_at s.state arrival effect) (wire s.state.room s.state.routes effect)
-      (changed effect s) (changed_stays effect s holds)
+module _ (By : Mover → Type 0) (test : Sent → Bool) where
+  ends_pass : (view : View) → Passes By test view → (nick : List ℕ)
+      → list_all test (ends_of nick view.clients) ≡ true
+  ends_pass view passes nick =
+      all-picked (λ (c : ℕ × Client). has_client view c.0) test
+      (λ (c : ℕ × Client). is_client nick c.1) (λ (c : ℕ × Client). end_of c.0)
+      (λ c is. passes.closing c.0 is) (entries view.clients)
+      (all_entries view.clients (has_client view) (λ conn is. is))
 
-  -- what is done, or is not
-  either_stays : (b : Bool) (one other : Served) → HoldsAt one → HoldsAt other
-      → HoldsAt (if b then one else other)
-  either_stays true one other first second = first
-  either_stays false one other first second = second
+  shown_out : (effect : Effect) (s : Served) → Passes By test s.state
+      → PutsOut test s (changed effect s)
+  shown_out effect s passes = record {
+    more = shown_at s.state effect;
+    behind = refl;
+    all = shown_pass test s.state passes.to_client effect;
+  }
 
-  came_stays : (arrival : Option ℕ) (effect : Effect) → Stays (effect_came arrival effect)
-  came_stays arrival effect s holds = either_stays (counts s.state effect)
-      (effect_told arrival effect s) s (effect_stays arrival effect s holds) holds
+  told_out : (mover : Mover) (effect : Effect) → By mover → (s : Served) → Passes By test s.state
+      → PutsOut test s (effect_told (came_by mover) effect s)
+  told_out mover effect by s passes =
+      then_out test s (changed effect s) (effect_told (came_by mover) effect s)
+      (shown_out effect s passes) (record {
+        more = on_links (ways_at s.state (came_by mover) effect)
+            (wire s.state.room s.state.routes effect);
+        behind = refl;
+        all = passes.on_ways mover by (told_homes s.state.room effect)
+            (wire s.state.room s.state.routes effect);
+      })
 
-  all_changed_stays : (effects : List Effect) → Stays (all_changed effects)
-  all_changed_stays [] s holds = holds
-  all_changed_stays (effect ∷ effects) s holds =
-      all_changed_stays effects (changed_if effect s) (either_stays (counts s.state effect)
-      (changed effect s) s (changed_stays effect s holds) holds)
+  ended_out : (nick words : List ℕ) (s : Served) → Passes By test s.state
+      → PutsOut test s (client_ended nick words s)
+  ended_out nick words s passes = record {
+    more = told ++ ends_of nick s.state.clients;
+    behind = refl;
+    all = all-append test told (ends_of nick s.state.clients)
+        (viewers_pass test s.state passes.to_client
+        (record { viewer = nick; line = error_line words }))
+        (ends_pass s.state passes nick);
+  }
+    where
+      told : List Sent
+      told = to_viewer s.state.clients (record { viewer = nick; line = error_line words })
 
-  -- ---- a user is taken out
+  pub puts_out : {s t : Served} → Move By s t → Passes By test s.state → PutsOut test s t
+  puts_out (answers conn line by here) passes = record {
+    more = line_to conn line ∷ [];
+    behind = refl;
+    all = all-one test (line_to conn line) (passes.to_client conn line here);
+  }
+  puts_out (does {s} conn effect by) passes = told_out (by_client conn) effect by s passes
+  puts_out (comes {s} arrival effect by is) passes = told_out (by_link arrival) effect by s passes
+  puts_out (shows {s} arrival effect by is) passes = shown_out effect s passes
+  puts_out (takes_out {s} arrival nick words true by is) passes =
+      let left = changed (Quit nick words) s in
+      then_out test s left (client_ended nick words left) (shown_out (Quit nick words) s passes)
+      (ended_out nick words left (record {
+        to_client = passes.to_client;
+        closing = passes.closing;
+        on_ways = passes.on_ways;
+      }))
+  puts_out (takes_out {s} arrival nick words false by is) passes = ended_out nick words s passes
+  puts_out (tells_on {s} arrival parts by) passes = record {
+    more = on_links (but arrival (ways_toward s.state.ends s.state.routes None)) parts;
+    behind = refl;
+    all = passes.on_ways (by_link arrival) by None parts;
+  }
+  puts_out {s} {t} (learns number uplink name distance token info by met) passes =
+      nothing_out test s t refl
+  puts_out {s} {t} (forgets arrival name by) passes = nothing_out test s t refl
+  puts_out {s} {t} (respells arrival channel by) passes = nothing_out test s t refl
 
-  taken_out_stays : (nick words : List ℕ) → Stays (taken_out nick words)
-  taken_out_stays nick words s holds =
-      let left = quit_by nick words s in
-      let clients = left.state.clients in
-      let told = to_viewer clients (record { viewer = nick; line = error_line words }) in
-      keeps.behind left.out (told ++ ends_of nick clients)
-      (all-append test told (ends_of nick clients)
-      (viewers_stays clients (record { viewer = nick; line = error_line words }))
-      (clients_stays clients (λ (c : ℕ × Client). is_client nick c.1)
-      (λ (c : ℕ × Client). end_of c.0) (λ c. keeps.closing c.0)))
-      (either_stays (has_user s.state.room nick) (changed (Quit nick words) s) s
-      (changed_stays (Quit nick words) s holds) holds)
-
-  -- ---- deeds
-
-  -- its effects, and its line on all links
-  whole_stays : (arrival : Option ℕ) (deed : Deed) (s : Served) → HoldsAt s
-      → HoldsAt (told_on_all arrival (deed_parts s.state.room s.state.routes deed)
-      (all_changed (effects_of s.state.room deed) s))
-  whole_stays arrival deed s holds =
-      let effects = effects_of s.state.room deed in
-      all_stays arrival (deed_parts s.state.room s.state.routes deed) (all_changed effects s)
-      (all_changed_stays effects s holds)
-
-  deed_stays : (arrival : Option ℕ) (deed : Deed) → Stays (deed_told arrival deed)
-  unfolding deed_told
-  deed_stays arrival (does effect) s holds = came_stays arrival effect s holds
-  deed_stays arrival (gains uplink name info) s holds = holds
-  deed_stays arrival (loses server name words) s holds =
-      let deed = loses server name words in
-      let left = all_changed (effects_of s.state.room deed) s in
-      all_stays arrival (deed_parts s.state.room s.state.routes deed) (forgotten name left)
-      (all_changed_stays (effects_of s.state.room deed) s holds)
-  deed_stays arrival (kills server nick) s holds =
-      all_stays arrival (deed_parts s.state.room s.state.routes (kills server nick))
-      (taken_out nick collision_text s)
-      (taken_out_stays nick collision_text s holds)
-  deed_stays arrival (brings server channel members) s holds =
-      let deed = brings server channel members in
-      let effects = effects_of s.state.room deed in
-      let spelled = titled_view channel s in
-      all_stays arrival (deed_parts s.state.room s.state.routes deed) (all_changed effects spelled)
-      (all_changed_stays effects spelled holds)
-  deed_stays arrival (sets server channel changes) s holds =
-      whole_stays arrival (sets server channel changes) s holds
-  deed_stays arrival (tops server channel topic) s holds =
-      whole_stays arrival (tops server channel topic) s holds
-
-  deeds_stays : (arrival : Option ℕ) (deeds : List Deed) → Stays (deeds_told arrival deeds)
-  deeds_stays arrival [] s holds = holds
-  deeds_stays arrival (deed ∷ deeds) s holds =
-      deeds_stays arrival deeds (deed_told arrival deed s) (deed_stays arrival deed s holds)
-
-  -- ---- what clients do
-
-  step_stays : (conn : ℕ) (name : Option (List ℕ)) (act : Act) → Stays (step_told conn name act)
-  step_stays conn name (Answer reply) s holds =
-      one_stays (line_to conn (reply_text s.state.routes.name name reply))
-      (keeps.to_client conn (reply_text s.state.routes.name name reply)) s holds
-  step_stays conn name (Raw line) s holds =
-      one_stays (line_to conn line.items) (keeps.to_client conn line.items) s holds
-  step_stays conn name (Do effect) s holds = effect_stays None effect s holds
-
-  steps_stays : (conn : ℕ) (name : Option (List ℕ)) (acts : List Act)
-      → Stays (steps_told conn name acts)
-  steps_stays conn name [] s holds = holds
-  steps_stays conn name (act ∷ acts) s holds =
-      steps_stays conn name acts (step_told conn name act s) (step_stays conn name act s holds)
-
-  close_stays : (close : Bool) (conn : ℕ) → Stays (closed_told close conn)
-  close_stays true conn s holds =
-      one_stays (end_of conn) (keeps.closing conn)
-      (record s { state = unseated conn s.state }) holds
-  close_stays false conn s holds = holds
-
-  quit_stays : (user : Option (List ℕ)) → Stays (quit_told user)
-  quit_stays None s holds = holds
-  quit_stays (Some nick) s holds = effect_stays None (Quit nick lost_text) s holds
-
-  -- ---- what happens by links
-
-  pub told_by_stays : (link : ℕ) (told : Told) → Stays (told_by link told)
-  unfolding told_by
-  told_by_stays link (a_deed deed) s holds =
-      deed_stays (arrival_of s.state.routes.name link deed) deed s holds
-  told_by_stays link (a_server uplink name distance token info) s holds =
-      let more = record s { state = with_row link uplink name distance token info s.state } in
-      either_stays (is_taken s.state.routes link name token)
-      (gain_told link uplink name info more) s
-      (all_stays (Some link)
-      (deed_parts more.state.room more.state.routes (gains uplink name info)) more holds) holds
-
-  pub all_told_stays : (link : ℕ) (told : List Told) → Stays (all_told link told)
-  all_told_stays link [] s holds = holds
-  all_told_stays link (told ∷ later) s holds =
-      all_told_stays link later (told_by link told s) (told_by_stays link told s holds)
-
-  pub lost_stays : (link : ℕ) → Stays (link_lost link)
-  lost_stays link s holds =
-      deeds_stays (Some link) (lost_behind s.state link (get s.state.ends link)) s holds
-
-  spelled_stays : (what : Setting) → Stays (spelled_by what)
-  spelled_stays (setting.Modes server channel changes) s holds = holds
-  spelled_stays (setting.Topic server channel text) s holds = holds
-  spelled_stays (setting.Spelling server channel) s holds = holds
-  spelled_stays (setting.Removal server channel nick text) s holds = holds
-
-  pub setting_stays : (link : ℕ) (what : Setting) → Stays (setting_told link what)
-  setting_stays link what s holds =
-      let spelled = spelled_by what s in
-      all_stays (Some link) (setting_parts what) (all_changed (setting_effects what) spelled)
-      (all_changed_stays (setting_effects what) spelled (spelled_stays what s holds))
-
-  -- ---- what clients do, where it holds of nothing put out
-
-  carried_stays : Holds [] → (close : Bool) (conn : ℕ) (name : Option (List ℕ)) (acts : List Act)
-      (view : View) → HoldsAt (closed_told close conn (steps_told conn name acts (in_silence view)))
-  carried_stays start close conn name acts view =
-      close_stays close conn (steps_told conn name acts (in_silence view))
-      (steps_stays conn name acts (in_silence view) start)
-
-  user_stays : Holds [] → (view : View) (conn : ℕ) (user : Option User) (message : Parsed)
-      → HoldsAt (user_told view conn user message)
-  user_stays start view conn None message = start
-  user_stays start view conn (Some user) message =
-      let decision = decide view.room (place_of view.routes) user.nick message in
-      carried_stays start decision.close conn (Some user.nick) decision.steps view
-
-  message_stays : Holds [] → (view : View) (conn : ℕ) (client : Option Client) (message : Parsed)
-      → HoldsAt (message_told view conn client message)
-  message_stays start view conn None message = start
-  message_stays start view conn (Some (Registering pending)) message =
-      let given = register view.room (place_of view.routes) pending message in
-      carried_stays start given.close conn given.pending.nick given.steps
-      (seated conn (client_after given given.pending.nick) view)
-  message_stays start view conn (Some (Registered nick)) message =
-      user_stays start view conn (row view.room.users (key nick)) message
-
-  pub client_event_stays : Holds [] → (view : View) (client_event : ClientEvent)
-      → HoldsAt (client_told view client_event)
-  unfolding client_told
-  client_event_stays start view (connects conn host) = start
-  client_event_stays start view (says conn (Ok message)) =
-      message_stays start view conn (client_of (machine_of view) conn) message
-  client_event_stays start view (says conn (Err fault)) = start
-  client_event_stays start view (goes conn) = quit_stays
-      (user_of view.room (client_of (machine_of view) conn)) (in_silence (unseated conn view)) start
+  -- where it passes in every view
+  pub all_out : ((view : View) → Passes By test view) → {s t : Served} → Moves By s t
+      → PutsOut test s t
+  all_out passes {s} {t} moves =
+      kept By (PutsOut test s)
+      (λ now later move so. then_out test s now later so (puts_out move (passes now.state))) moves
+      (nothing_out test s s refl)

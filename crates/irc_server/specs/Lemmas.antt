@@ -1,4 +1,4 @@
 -- Lemmas, with their proofs, that the crates above cite too. No rule stands here.
 pub mod Fronts
-pub mod Matched
-pub mod StayingEnds
+pub mod HeardCanBeDone
+pub mod ServedByMoves

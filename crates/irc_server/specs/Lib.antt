@@ -6,6 +6,7 @@ pub mod DeedTold
 pub mod Heard
 pub mod LinkServed
 pub mod Laws
+pub mod Moves
 pub mod Lemmas
 pub mod Configuring
 pub mod Served

@@ -22,8 +22,8 @@ use Rattle.irc_burst_lines.specs.DeedLines.{member_text, njoin_parts, server_par
 use Rattle.irc_burst_lines.specs.DeedLines.{topic_parts}
 use Rattle.irc_link_words.specs.Numbers.{max_number}
 use Rattle.irc_link_writer.specs.Written.{next_distance, written_token}
-use Rattle.irc_wire.specs.Lemmas.CarriedParts.{from_carried, number_carried, parameters_carried}
-use Rattle.irc_wire.specs.Lemmas.ModeWords.{letters_carried}
+use Rattle.irc_readback.specs.Lemmas.CarriedParts.{from_carried, number_carried, parameters_carried}
+use Rattle.irc_readback.specs.Lemmas.ModeWords.{letters_carried}
 use Rattle.irc_follow.specs.Lemmas.MemberLines.{AreNicks}
 
 both_carried : (xs ys : List ℕ) → IsCarried xs → IsCarried ys → IsCarried (xs ++ ys)

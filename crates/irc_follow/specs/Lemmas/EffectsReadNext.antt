@@ -43,9 +43,9 @@ use Rattle.irc_link_words.specs.Numbers.{max_number}
 use Rattle.irc_link_reader.specs.Reader.{is_behind_link, reader_of}
 use Rattle.irc_link_writer.specs.Written.{next_distance, wire, written_token}
 use Rattle.irc_stage.specs.View.{View}
-use Rattle.irc_wire.specs.EachReadBack.{AgreesOnServer}
-use Rattle.irc_wire.specs.Introductions.{IsIntroduced}
-use Rattle.irc_wire.specs.ReadBack.{IsReadable, is_user_far}
+use Rattle.irc_readback.specs.EachReadBack.{AgreesOnServer}
+use Rattle.irc_readback.specs.Introductions.{IsIntroduced}
+use Rattle.irc_readback.specs.ReadBack.{IsReadable, is_user_far}
 use Rattle.irc_follow.specs.Tree.{Shape, index_in, shape, shape_in}
 use Rattle.irc_follow.specs.SideState.{ItemSetting, info_in, number, IsItemSetting, IsSoundSide}
 use Rattle.irc_follow.specs.SideState as of_side

@@ -46,8 +46,8 @@ use Rattle.irc_link_writer.specs.Written.{wire}
 use Rattle.irc_stage.specs.EffectTold.{Served, on_links, shown_at, ways_at}
 use Rattle.irc_stage.specs.View.{End, View}
 use Rattle.irc_server.specs.Heard.{heard, of_met, tells}
-use Rattle.irc_wire.specs.EachReadBack.{EachIsReadBack}
-use Rattle.irc_wire.specs.ReadBack.{IsReadBack}
+use Rattle.irc_readback.specs.EachReadBack.{EachIsReadBack}
+use Rattle.irc_readback.specs.ReadBack.{IsReadBack}
 use Rattle.irc_follow.specs.Tree.{shape_in}
 use Rattle.irc_follow.specs.SideState.{ItemSetting, number, IsItemSetting, IsSoundSide}
 use Rattle.irc_follow.specs.SideState as of_side

@@ -44,9 +44,9 @@ use Rattle.irc_server.specs.DeedTold.{gain_told, told_by}
 use Rattle.irc_server.specs.Heard.{Heard, meets, tells}
 use Rattle.irc_server.specs.LinkServed.{after_heard, line_served, met_by, on_link, owes}
 use Rattle.irc_server.specs.Served.{served}
-use Rattle.irc_wire.specs.Lemmas.LinesReadBack.{command_plain, from_plain}
-use Rattle.irc_wire.specs.Lemmas.ModeWords.{digits_plain}
-use Rattle.irc_wire.specs.Lemmas.NumberText.{number_digits, number_read, number_taken}
+use Rattle.irc_readback.specs.Lemmas.LinesReadBack.{command_plain, from_plain}
+use Rattle.irc_readback.specs.Lemmas.ModeWords.{digits_plain}
+use Rattle.irc_readback.specs.Lemmas.NumberText.{number_digits, number_read, number_taken}
 use Rattle.irc_follow.specs.Tree.{gained, told_token, CanGain}
 use Rattle.irc_follow.specs.SideState.{ItemSetting, info_in, number, IsItemSetting, IsSoundSide}
 use Rattle.irc_follow.specs.SideState as of_side

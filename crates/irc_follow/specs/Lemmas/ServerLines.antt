@@ -56,11 +56,11 @@ use Rattle.irc_link_words.specs.Words.{are_changes, are_members_named, are_words
 use Rattle.irc_link_words.specs.Words.{is_mode_word, names_nick}
 use Rattle.irc_stage.specs.View.{End, View}
 use Rattle.irc_server.specs.Heard.{heard, of_met, opened}
-use Rattle.irc_wire.specs.Lemmas.LinesReadBack.{carried_no_nul, command_plain, from_plain}
-use Rattle.irc_wire.specs.Lemmas.ModesRead.{changes_again, changes_taken, nick_so}
+use Rattle.irc_readback.specs.Lemmas.LinesReadBack.{carried_no_nul, command_plain, from_plain}
+use Rattle.irc_readback.specs.Lemmas.ModesRead.{changes_again, changes_taken, nick_so}
 use Rattle.irc_modes.specs.Lemmas.FewChanges.{letters_few}
-use Rattle.irc_wire.specs.Lemmas.ModeWords.{mode_words, worded_counted, words_plain}
-use Rattle.irc_wire.specs.Lemmas.NameKinds.{channel-for_channel}
+use Rattle.irc_readback.specs.Lemmas.ModeWords.{mode_words, worded_counted, words_plain}
+use Rattle.irc_readback.specs.Lemmas.NameKinds.{channel-for_channel}
 use Rattle.irc_follow.specs.Lemmas.MemberLines.{AreNicks, all_nicks, members_back, members_no_nul}
 
 -- what a message is heard as by a link whose other end has named itself

@@ -37,9 +37,9 @@ use Rattle.irc_link_reader.specs.Reader.{Reader, is_behind_link, may_come, reade
 use Rattle.irc_link_writer.specs.Written.{wire}
 use Rattle.irc_stage.specs.View.{End, View}
 use Rattle.irc_server.specs.Heard.{heard, of_met, tells}
-use Rattle.irc_wire.specs.EachReadBack.{EachIsReadBack}
-use Rattle.irc_wire.specs.ReadBack.{IsReadBack}
-use Rattle.irc_wire.specs.Lemmas.LinesReadBack.{command_plain, from_plain}
+use Rattle.irc_readback.specs.EachReadBack.{EachIsReadBack}
+use Rattle.irc_readback.specs.ReadBack.{IsReadBack}
+use Rattle.irc_readback.specs.Lemmas.LinesReadBack.{command_plain, from_plain}
 use Rattle.irc_world.specs.World.{World}
 use Rattle.irc_follow.specs.AtRest.{side_state_of}
 use Rattle.irc_follow.specs.Fits.{Fits}

@@ -52,8 +52,8 @@ use Rattle.irc_link_words.specs.Numbers.{max_number}
 use Rattle.irc_link_writer.specs.Written.{next_distance, wire, written_token}
 use Rattle.irc_stage.specs.View.{View}
 use Rattle.irc_server.specs.Heard.{heard, of_met, tells}
-use Rattle.irc_wire.specs.EachReadBack.{AgreesOnServer, EachIsReadBack}
-use Rattle.irc_wire.specs.ReadBack.{IsReadable}
+use Rattle.irc_readback.specs.EachReadBack.{AgreesOnServer, EachIsReadBack}
+use Rattle.irc_readback.specs.ReadBack.{IsReadable}
 use Rattle.irc_follow.specs.AtRest.{AreRight}
 use Rattle.irc_follow.specs.Fits.{Fits}
 use Rattle.irc_follow.specs.SideState.{ItemSetting, SideState, info_in, number, IsItemSetting}

@@ -42,7 +42,7 @@ use Rattle.irc_link_words.specs.Words.{are_words}
 use Rattle.irc_stage.specs.View.{View}
 use Rattle.irc_server.specs.DeedTold.{losses, split_text}
 use Rattle.irc_server.specs.Heard.{heard, of_met, opened, tells}
-use Rattle.irc_wire.specs.Lemmas.LinesReadBack.{carried_no_nul, command_plain, from_plain}
+use Rattle.irc_readback.specs.Lemmas.LinesReadBack.{carried_no_nul, command_plain, from_plain}
 use Rattle.irc_world.specs.World.{World}
 use Rattle.irc_follow.specs.Tree.{shape_in}
 use Rattle.irc_follow.specs.Fits.{Fits}

@@ -33,7 +33,7 @@ use Rattle.irc_server.specs.Heard.{Heard, closes, heard, meets, met_unless, open
 use Rattle.irc_server.specs.LinkServed.{after_heard, line_served, on_link, owes}
 use Rattle.irc_server.specs.Lemmas.Fronts.{lost_link_behind}
 use Rattle.irc_server.specs.Served.{link_says, served}
-use Rattle.irc_wire.specs.Lemmas.LinesReadBack.{command_plain}
+use Rattle.irc_readback.specs.Lemmas.LinesReadBack.{command_plain}
 use Rattle.irc_follow.specs.Lemmas.Neighbours.{IsKnownOfLines}
 use Rattle.irc_follow.specs.Lemmas.SaidGainToldOn.{text_no_nul}
 use Rattle.irc_items.specs.GoodLines.{closings}

@@ -25,7 +25,7 @@ use Rattle.irc_stage.specs.View.{End, View}
 use Rattle.irc_server.specs.Heard.{heard, of_met, opened, password}
 use Rattle.irc_server.specs.LinkServed.{after_heard, line_served}
 use Rattle.irc_server.specs.Served.{link_says, served}
-use Rattle.irc_wire.specs.Lemmas.LinesReadBack.{command_plain}
+use Rattle.irc_readback.specs.Lemmas.LinesReadBack.{command_plain}
 use Rattle.irc_items.proofs.Handshake.Greetings.{IsKnownOfHandshakes}
 
 -- ---- a password is a word of a line

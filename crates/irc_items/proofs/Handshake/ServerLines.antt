@@ -22,8 +22,8 @@ use Rattle.irc_link_words.specs.Numbers.{is_number, max_number}
 use Rattle.irc_link_writer.specs.Written.{next_distance, written_token}
 use Rattle.irc_stage.specs.View.{End, View}
 use Rattle.irc_server.specs.Heard.{heard, of_met, opened, tells}
-use Rattle.irc_wire.specs.Lemmas.LinesReadBack.{command_plain, from_plain}
-use Rattle.irc_wire.specs.Lemmas.NumberText.{number_read, number_taken}
+use Rattle.irc_readback.specs.Lemmas.LinesReadBack.{command_plain, from_plain}
+use Rattle.irc_readback.specs.Lemmas.NumberText.{number_read, number_taken}
 use Rattle.irc_follow.specs.Lemmas.Neighbours.{IsKnownOfLines}
 use Rattle.irc_follow.specs.Lemmas.SaidGainToldOn.{four_so, number_plain, server_so, text_no_nul}
 

@@ -32,8 +32,8 @@ use Rattle.irc_link_writer.specs.Written.{wire}
 use Rattle.irc_stage.specs.EffectTold.{on_links, ways_at}
 use Rattle.irc_stage.specs.View.{View}
 use Rattle.irc_server.specs.Heard.{heard, of_met, opened, tells}
-use Rattle.irc_wire.specs.EachReadBack.{EachIsReadBack}
-use Rattle.irc_wire.specs.ReadBack.{IsReadBack}
+use Rattle.irc_readback.specs.EachReadBack.{EachIsReadBack}
+use Rattle.irc_readback.specs.ReadBack.{IsReadBack}
 use Rattle.irc_follow.specs.Tree.{shape_in}
 use Rattle.irc_follow.specs.SideState.{ItemSetting, SideState, info_in, number, IsItemSetting}
 use Rattle.irc_follow.specs.SideState.{IsSoundSide}

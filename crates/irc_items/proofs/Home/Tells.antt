@@ -29,7 +29,7 @@ use Rattle.irc_stage.specs.EffectTold.{room_after}
 use Rattle.irc_stage.specs.Handle.{ClientEvent, says}
 use Rattle.irc_stage.specs.RoomMachine.{RoomMachine}
 use Rattle.irc_stage.specs.View.{View}
-use Rattle.irc_wire.specs.EachReadBack.{EachIsReadBack}
+use Rattle.irc_readback.specs.EachReadBack.{EachIsReadBack}
 use Rattle.irc_world.specs.Bounds.{effects_at}
 use Rattle.irc_world.specs.World.{World, machine_at, place_at}
 use Rattle.irc_world.specs.WorldHolds.{IsWorld}

@@ -33,7 +33,7 @@ use Rattle.irc_relay.specs.Lemmas.NextHops.{linked_joined, next_hop}
 use Rattle.irc_routes.specs.Known.{Known, row_of}
 use Rattle.irc_routes.specs.declared.server_row.ServerRow.{ServerRow}
 use Rattle.irc_stage.specs.View.{View}
-use Rattle.irc_wire.specs.EachReadBack.{EachIsReadBack}
+use Rattle.irc_readback.specs.EachReadBack.{EachIsReadBack}
 use Rattle.irc_world.specs.World.{Hall, World}
 use Rattle.irc_follow.specs.Fits.{Fits}
 use Rattle.irc_follow.specs.SideState.{ItemSetting, SideState, done, info_in, number}

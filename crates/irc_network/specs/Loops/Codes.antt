@@ -9,8 +9,8 @@ use Rattle.irc_world.specs.Stepping.{Item, connect, line, gone, link, cut}
 use Rattle.irc_network.specs.Histories.{Past}
 use Rattle.irc_network.specs.Network.{Network, Node}
 use Rattle.irc_network.specs.ByteNetwork.{ByteNetwork}
-use Rattle.irc_wires.specs.Wires.{Wires}
-use Rattle.irc_wires.specs.contracts.wires.Wires.{the_row as wires_row}
+use Rattle.irc_pipes.specs.Pipes.{Pipes}
+use Rattle.irc_pipes.specs.contracts.pipes.Pipes.{the_row as pipes_row}
 
 abbrev pub link_code : Coded Link
 link_code = code_by (Name × Name) (coded× text_code text_code) (λ l. (l.near, l.far))
@@ -77,5 +77,5 @@ network_code =
 
 abbrev pub byte_network_code : Coded ByteNetwork
 byte_network_code =
-    code_by (Network × Wires) (coded× network_code wires_row.coded) (λ n. (n.network, n.wires))
-    (λ p. record { network = p.0; wires = p.1 }) (λ _. refl)
+    code_by (Network × Pipes) (coded× network_code pipes_row.coded) (λ n. (n.network, n.pipes))
+    (λ p. record { network = p.0; pipes = p.1 }) (λ _. refl)

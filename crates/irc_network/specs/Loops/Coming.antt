@@ -7,13 +7,13 @@ use Rattle.irc_network.specs.declared.call_output.CallOutput.{CallOutput}
 use Rattle.irc_network.specs.Calls.{progress_at}
 pub use Rattle.irc_network.specs.Loops.Progress.{progress_of}
 use Rattle.irc_network.specs.Loops.Progress.{all_heard_out}
-use Rattle.irc_wires.specs.Wires.{wire_at}
+use Rattle.irc_pipes.specs.Pipes.{pipe_at}
 use Rattle.irc_network.specs.Network.{Progress}
 use Rattle.irc_network.specs.ByteNetwork.{ByteNetwork, bytes_come, completed_in}
 
 -- how many bytes are on their way from the first of two servers to the other
 abbrev pub bytes_between : ByteNetwork → EndPlaces → ℕ
-bytes_between net ends = length (wire_at net.wires ends.near ends.far).bytes
+bytes_between net ends = length (pipe_at net.pipes ends.near ends.far).bytes
 
 -- how many lines so many bytes complete there
 abbrev pub lines_between : ByteNetwork → EndPlaces → ℕ → ℕ

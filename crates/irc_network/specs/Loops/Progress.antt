@@ -9,14 +9,14 @@ use Rattle.irc_server.specs.ReadEvents.{read_event_of}
 use Rattle.irc_server.specs.Served.{ReadEvent, link_says}
 use Rattle.irc_server.specs.declared.event.Event.{Event}
 use Rattle.irc_relay.specs.Links.{Name}
-use Rattle.irc_wires.specs.Wires.{Wires, without_wire, written_at}
+use Rattle.irc_pipes.specs.Pipes.{Pipes, without_pipe, written_at}
 use Rattle.irc_world.specs.Stepping.{Item}
 use Rattle.irc_forest.specs.Forests.{name_at}
 use Rattle.irc_network.specs.declared.receipt.Receipt.{Receipt as KeptReceipt}
 use Rattle.irc_forest.specs.declared.places.EndPlaces.{EndPlaces}
 use Rattle.irc_network.specs.declared.call_output.CallOutput.{CallOutput}
-use Rattle.irc_network.specs.ByteNetwork.{ByteNetwork, progress_without_wires}
-use Rattle.irc_network.specs.ByteNetwork.{progress_written, wires_after}
+use Rattle.irc_network.specs.ByteNetwork.{ByteNetwork, progress_without_pipes}
+use Rattle.irc_network.specs.ByteNetwork.{progress_written, pipes_after}
 use Rattle.irc_network.specs.Calls.{progress_at}
 use Rattle.irc_network.specs.Network.{Progress, LinkPlaces, Network, all_sent_out, done_by}
 use Rattle.irc_network.specs.Network.{has_received, home_place, line_body, line_counted, sent_out}
@@ -61,16 +61,16 @@ sent_at place (Some sent) progress = sent_out place sent progress
 abbrev pub line_sent : ℕ → ℕ → List ℕ → ByteNetwork → ByteNetwork
 line_sent from to text net =
     if has_way net.network from to
-    then record net { wires = written_at from to (line_body text) net.wires } else net
+    then record net { pipes = written_at from to (line_body text) net.pipes } else net
 
--- with these wires, whatever was done beside them
-abbrev pub with_wires : Wires → Progress Network → Progress ByteNetwork
-with_wires wires progress =
-    record { state = record { network = progress.state; wires = wires }; out = progress.out }
+-- with these pipes, whatever was done beside them
+abbrev pub with_pipes : Pipes → Progress Network → Progress ByteNetwork
+with_pipes pipes progress =
+    record { state = record { network = progress.state; pipes = pipes }; out = progress.out }
 
 abbrev pub byte_sent : ℕ → Sent → Progress ByteNetwork → Progress ByteNetwork
 byte_sent place (line_to client text) progress =
-    with_wires progress.state.wires (has_received client text (progress_without_wires progress))
+    with_pipes progress.state.pipes (has_received client text (progress_without_pipes progress))
 byte_sent place (end_of client) progress = progress
 byte_sent place (line_on to text) progress =
     record progress { state = line_sent place to text progress.state }
@@ -86,7 +86,7 @@ byte_sent_at place (Some sent) progress = byte_sent place sent progress
 abbrev pub asked_out : ℕ → ReadEvent → Progress ByteNetwork → Progress ByteNetwork
 asked_out place read_event progress =
     progress_written
-    (node_asked place read_event (progress_without_wires progress)) progress.state.wires
+    (node_asked place read_event (progress_without_pipes progress)) progress.state.pipes
 
 abbrev pub byte_counted : ByteNetwork → ByteNetwork
 byte_counted net = record net { network = line_counted net.network }
@@ -111,7 +111,7 @@ way_opened from to net =
 abbrev pub way_closed : ℕ → ℕ → ByteNetwork → ByteNetwork
 way_closed from to net = record {
   network = node_changed_at from (without_way to) net.network;
-  wires = without_wire from to net.wires;
+  pipes = without_pipe from to net.pipes;
 }
 
 -- ---- what a network and the output of a call were, and what they became
@@ -126,7 +126,7 @@ abbrev pub IsAskedIf : Option ℕ → Event → ByteNetwork → CallOutput → B
     → Type 0
 IsAskedIf place event old before new after =
     progress_at new after ≡ progress_written (node_asked_if place (read_event_of event)
-    (progress_without_wires (progress_at old before))) old.wires
+    (progress_without_pipes (progress_at old before))) old.pipes
 
 abbrev pub IsHomeAsked : ℕ → Event → ByteNetwork → CallOutput → ByteNetwork → CallOutput → Type 0
 IsHomeAsked client event old before new after =
@@ -136,7 +136,7 @@ IsHomeAsked client event old before new after =
 abbrev pub AreSentOut : ℕ → ByteNetwork → CallOutput → ByteNetwork → CallOutput → Type 0
 AreSentOut place old before new after =
     progress_at new after ≡ progress_written (all_sent_out place before.out.outs
-    (progress_without_wires (progress_at old before))) old.wires
+    (progress_without_pipes (progress_at old before))) old.pipes
 
 -- what was put out at one place there went its way
 abbrev pub IsSentAt : ℕ → ℕ → ByteNetwork → CallOutput → ByteNetwork → CallOutput → Type 0
@@ -148,14 +148,14 @@ IsSentAt place at old before new after =
 abbrev pub IsReceived : ℕ → List ℕ → ByteNetwork → Vec KeptReceipt Global → ByteNetwork
     → Vec KeptReceipt Global → Type 0
 IsReceived client text old before new after =
-    progress_of new after.items ≡ with_wires old.wires
+    progress_of new after.items ≡ with_pipes old.pipes
     (has_received client text (progress_of old.network before.items))
 
 -- an item was done, and nothing was in the output before
 abbrev pub IsDone : Item → ByteNetwork → ByteNetwork → CallOutput → Type 0
 IsDone item old new after =
     progress_at new after ≡ progress_written (done_by item old.network)
-    (wires_after old.network item old.wires)
+    (pipes_after old.network item old.pipes)
 
 -- a server was asked for a line that has come from another, and the line was counted
 abbrev pub IsLineHeard : ℕ → ℕ → List ℕ → ByteNetwork → CallOutput → ByteNetwork → CallOutput

@@ -5,7 +5,7 @@ use Rattle.irc_line.specs.Reading.{read_of}
 use Rattle.irc_stage.specs.View.{View}
 use Rattle.irc_server.specs.Loops.Hearing.{heard_of}
 use Rattle.irc_server.specs.Loops.Serving.{IsHearable}
-use Rattle.irc_server.proofs.LinesServed.{hearable}
+use Rattle.irc_server.specs.Lemmas.HeardCanBeDone.{hearable}
 use Rattle.irc_server.proofs.serving.hear_line.Goals as goal
 
 pub follow-requires : goal.follow-requires

@@ -1,7 +1,7 @@
 use Rattle.std.proofs.Common.{◌∙◌, ap, sym}
-use Rattle.irc_net.specs.Calls.{NetView, wire_between}
+use Rattle.irc_net.specs.Calls.{NetView, pipe_between}
 use Rattle.irc_network.specs.Loops.Progress.{ends_now}
-use Rattle.irc_wires.specs.Wires.{through_line_feed}
+use Rattle.irc_pipes.specs.Pipes.{through_line_feed}
 use Rattle.irc_net.proofs.Calling.{delivery_fails, line_wants, none_came, some_came}
 use Rattle.irc_net.proofs.net.Net.deliver.Goals as goal
 
@@ -16,7 +16,7 @@ returns-then-count-eq0 g c =
     c.in_ok-ends.ensures
     (sym (c.through_line_feed-count.ensures
     ∙ ap (λ (n : NetView). through_line_feed
-    (wire_between n.network (ends_now c.in_ok-ends.ends)).bytes) c.self.view_is)
+    (pipe_between n.network (ends_now c.in_ok-ends.ends)).bytes) c.self.view_is)
     ∙ c.if-count-eq0.true) c.new.ensures.items
 
 pub come-requires : goal.come-requires
@@ -35,5 +35,5 @@ returns g c =
     c.in_ok-ends.ensures
     (c.through_line_feed-count.ensures
     ∙ ap (λ (n : NetView). through_line_feed
-    (wire_between n.network (ends_now c.in_ok-ends.ends)).bytes) c.self.view_is)
+    (pipe_between n.network (ends_now c.in_ok-ends.ends)).bytes) c.self.view_is)
     c.if-count-eq0.false c.in_ok-lines.ensures

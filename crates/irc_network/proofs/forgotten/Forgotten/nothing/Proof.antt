@@ -64,8 +64,8 @@ meets {𝓤 = 𝓤} 𝓛 mem run 𝓣 =
 
 pub nothing_spec : {M : Type 1} → stated.statement M
 unfolding tables_of
-nothing_spec 𝓤 𝓛 𝓜 𝓡 wired =
+nothing_spec 𝓤 𝓛 𝓜 𝓡 piped =
     entered 𝓤 𝓛.H (triple_of 𝓛 f.signature (f.spec 𝓛 𝓜.mem 𝓡.returns))
     (tables 𝓤 𝓛.H 𝓜 𝓡 𝓡.env).C (tables 𝓤 𝓛.H 𝓜 𝓡 𝓡.env).Λ key code.function
-    (code.unfolded 𝓤 𝓛.H 𝓜 𝓡 wired)
+    (code.unfolded 𝓤 𝓛.H 𝓜 𝓡 piped)
     (meets 𝓛 𝓜.mem 𝓡.returns (tables_of 𝓤 𝓛.H 𝓜 (tables 𝓤 𝓛.H 𝓜 𝓡 𝓡.env)))

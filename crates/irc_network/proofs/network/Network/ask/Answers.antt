@@ -2,7 +2,7 @@ use Rattle.std.proofs.Common.{◌≡◌, ◌∙◌, Some, None, ap, subst, sym}
 use Rattle.std.specs.List.{slice_get, slice_set}
 use Rattle.std.proofs.lemmas.Option.{slice_get_past}
 use Rattle.irc_server.specs.ReadEvents.{read_event_of}
-use Rattle.irc_network.specs.ByteNetwork.{ByteNetwork, progress_without_wires, progress_written}
+use Rattle.irc_network.specs.ByteNetwork.{ByteNetwork, progress_without_pipes, progress_written}
 use Rattle.irc_network.specs.Lemmas.FoundAtPlaces.{found_at}
 use Rattle.irc_network.specs.Lemmas.Outcomes.{on_ok}
 use Rattle.irc_network.specs.Loops.Progress.{asked_out, progress_of}
@@ -17,7 +17,7 @@ pub returns-in_default : goal.returns-in_default
 returns-in_default g c =
     let lines = c.args.output.now.lines.items in
     let i = c.self.inside in
-    let old = whole i.forest i.nodes.items i.wires i.homes.items (g.H.History.past i.history)
+    let old = whole i.forest i.nodes.items i.pipes i.homes.items (g.H.History.past i.history)
     i.taken in
     subst (λ (net : ByteNetwork). progress_of old lines ≡ asked_out c.args.place
     (read_event_of c.args.event.now) (progress_of net lines)) c.self.view_is
@@ -29,7 +29,7 @@ returns-in_default g c =
 pub send_out-requires : goal.send_out-requires
 send_out-requires g c =
     let i = c.self.inside in
-    let old = whole i.forest i.nodes.items i.wires i.homes.items (g.H.History.past i.history)
+    let old = whole i.forest i.nodes.items i.pipes i.homes.items (g.H.History.past i.history)
     i.taken in
     record {
       tidy = put_tidy old c.index.result c.in-Some.node.now c.serve.new.self
@@ -43,14 +43,14 @@ pub returns : goal.returns
 returns g c =
     let lines = c.args.output.now.lines.items in
     let i = c.self.inside in
-    let old = whole i.forest i.nodes.items i.wires i.homes.items (g.H.History.past i.history)
+    let old = whole i.forest i.nodes.items i.pipes i.homes.items (g.H.History.past i.history)
     i.taken in
     let outs = c.serve.new.out.outs in
     on_ok c.send_out.result c.send_out.ensures (λ sent.
     sent
-    ∙ ap (λ place. progress_written (all_sent_out c.args.place outs (progress_without_wires
-    (progress_of (whole i.forest (slice_set i.nodes.items place c.serve.new.self) i.wires
-    i.homes.items (g.H.History.past i.history) i.taken) lines))) i.wires) c.index.ensures
+    ∙ ap (λ place. progress_written (all_sent_out c.args.place outs (progress_without_pipes
+    (progress_of (whole i.forest (slice_set i.nodes.items place c.serve.new.self) i.pipes
+    i.homes.items (g.H.History.past i.history) i.taken) lines))) i.pipes) c.index.ensures
     ∙ somebody_asked c.args.place (read_event_of c.args.event.now)
     (progress_of old lines) c.in-Some.node.now c.serve.new.self outs
     (subst (λ place. slice_get old.network.nodes place ≡ Some c.in-Some.node.now) c.index.ensures

@@ -1,4 +1,4 @@
-use Rattle.irc_wires.specs.Loops.Rows.{direction_of}
+use Rattle.irc_pipes.specs.Loops.Rows.{direction_of}
 use Rattle.irc_network.specs.Loops.Progress.{progress_of}
 use Rattle.irc_network.proofs.Calls.{no_turn, one_turn}
 use Rattle.irc_network.proofs.network.Network.come_in_turn.Goals as goal

@@ -9,4 +9,4 @@ invariant-loop-lines g l =
     (progress_of l.self l.output.lines.items)
 
 abbrev pub decreases-loop-lines : goal.decreases-loop-lines
-decreases-loop-lines g l = bytes_on_way l.self.wires
+decreases-loop-lines g l = bytes_on_way l.self.pipes

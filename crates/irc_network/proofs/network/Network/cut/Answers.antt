@@ -23,7 +23,7 @@ ask-requires g c =
     let past = g.H.History.past i.history in
     record {
       tidy = closed_tidily c.args.near.now c.args.far.now ends i.forest c.cut.new.self i.nodes.items
-          i.wires i.homes.items past i.taken c.args.self.now c.close_way.new.self
+          i.pipes i.homes.items past i.taken c.args.self.now c.close_way.new.self
           c.close_way-2.new.self
           c.self.view_is c.cut.ensures c.in-Some.ensures.named c.close_way.ensures
           c.close_way-2.ensures c.requires.tidy;
@@ -41,7 +41,7 @@ ask-requires-2 g c =
           (asked_tidy ends.near (link_down c.link.result)
           (progress_of c.close_way-2.new.self c.args.output.now.lines.items)
           (closed_tidily c.args.near.now c.args.far.now ends i.forest c.cut.new.self i.nodes.items
-          i.wires i.homes.items past i.taken c.args.self.now c.close_way.new.self
+          i.pipes i.homes.items past i.taken c.args.self.now c.close_way.new.self
           c.close_way-2.new.self
           c.self.view_is c.cut.ensures c.in-Some.ensures.named c.close_way.ensures
           c.close_way-2.ensures c.requires.tidy));
@@ -55,12 +55,12 @@ returns g c =
     let before : c.close_way-2.new.self ≡ closed c.args.near.now c.args.far.now (ends_now ends)
     c.args.self.now =
     closed_so c.args.near.now c.args.far.now ends i.forest c.cut.new.self i.nodes.items
-    i.wires i.homes.items past i.taken c.args.self.now c.close_way.new.self c.close_way-2.new.self
+    i.pipes i.homes.items past i.taken c.args.self.now c.close_way.new.self c.close_way-2.new.self
     c.self.view_is c.cut.ensures c.in-Some.ensures.named c.close_way.ensures c.close_way-2.ensures
     in
     let middle = progress_of c.ask.new.self c.ask.new.output.lines.items in
     on_ok c.ask-2.result c.ask-2.ensures (λ last.
-    servers_were_parted c.same_wires.ensures c.args.near.now c.args.far.now (ends_now ends)
+    servers_were_parted c.same_pipes.ensures c.args.near.now c.args.far.now (ends_now ends)
     c.args.self.now middle (progress_of c.ask-2.new.self c.ask-2.new.output.lines.items)
     c.requires.tidy (sym c.in-Some.ensures.ends)
     (c.in_ok-ask.ensures ∙ (λ j. asked_out ends.near (link_down (c.link.ensures j))

@@ -12,7 +12,7 @@ returns g c =
     let item = item_of c.args.item in
     let i = c.self.inside in
     let lines = c.do_item.new.output.lines.items in
-    ap (λ (past : Past). progress_of (whole i.forest i.nodes.items i.wires i.homes.items past 0)
+    ap (λ (past : Past). progress_of (whole i.forest i.nodes.items i.pipes i.homes.items past 0)
     lines) c.in_ok-add_item.ensures
     ∙ ap (λ (net : ByteNetwork). byte_kept item (progress_of net lines)) c.self.view_is
     ∙ was_given c.args.self.now item

@@ -24,7 +24,7 @@ ask-requires g c =
     record {
       tidy =
           opened_tidily c.args.near.now c.args.far.now ends i.forest c.link.new.self i.nodes.items
-          i.wires i.homes.items past i.taken c.args.self.now c.open_way.new.self
+          i.pipes i.homes.items past i.taken c.args.self.now c.open_way.new.self
           c.open_way-2.new.self
           c.self.view_is c.in_ok-link.ensures.ok c.in-Some.ensures.named c.in_ok-open_way.ensures
           c.in_ok-open_way-2.ensures c.requires.tidy;
@@ -42,7 +42,7 @@ ask-requires-2 g c =
           (asked_tidy ends.near (link_up c.link-2.result (Some c.copy.result))
           (progress_of c.open_way-2.new.self c.args.output.now.lines.items)
           (opened_tidily c.args.near.now c.args.far.now ends i.forest c.link.new.self i.nodes.items
-          i.wires i.homes.items past i.taken c.args.self.now c.open_way.new.self
+          i.pipes i.homes.items past i.taken c.args.self.now c.open_way.new.self
           c.open_way-2.new.self
           c.self.view_is c.in_ok-link.ensures.ok c.in-Some.ensures.named c.in_ok-open_way.ensures
           c.in_ok-open_way-2.ensures c.requires.tidy));
@@ -56,12 +56,12 @@ returns g c =
     let before : c.open_way-2.new.self ≡ opened c.args.near.now c.args.far.now (ends_now ends)
     c.args.self.now =
     opened_so c.args.near.now c.args.far.now ends i.forest c.link.new.self i.nodes.items
-    i.wires i.homes.items past i.taken c.args.self.now c.open_way.new.self c.open_way-2.new.self
+    i.pipes i.homes.items past i.taken c.args.self.now c.open_way.new.self c.open_way-2.new.self
     c.self.view_is c.in_ok-link.ensures.ok c.in-Some.ensures.named c.in_ok-open_way.ensures
     c.in_ok-open_way-2.ensures in
     let middle = progress_of c.ask.new.self c.ask.new.output.lines.items in
     on_ok c.ask-2.result c.ask-2.ensures (λ last.
-    servers_were_linked c.same_wires.ensures c.args.near.now c.args.far.now (ends_now ends)
+    servers_were_linked c.same_pipes.ensures c.args.near.now c.args.far.now (ends_now ends)
     c.args.self.now middle (progress_of c.ask-2.new.self c.ask-2.new.output.lines.items)
     c.requires.tidy (sym c.in-Some.ensures.ends)
     (c.in_ok-ask.ensures

@@ -1,0 +1,3 @@
+-- Lemmas that crates above cite.
+pub mod StillPipes
+pub mod PutPipes

@@ -1,0 +1,3 @@
+pub mod Pipes
+pub mod Loops
+pub mod Lemmas

@@ -1,0 +1,11 @@
+//! What is on its way along the links of a network: bytes, and at each far end a framer that makes
+//! lines of them. Definitions are in `specs/`.
+#![tactic(auto)]
+
+pub mod laws;
+mod row;
+mod pipe;
+mod pipes;
+
+pub use pipe::LinkPipe;
+pub use pipes::Pipes;

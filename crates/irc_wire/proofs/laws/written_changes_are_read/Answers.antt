@@ -1,5 +1,0 @@
-use Rattle.irc_wire.specs.Lemmas.ModesRead.{written_changes_are_read}
-use Rattle.irc_wire.proofs.laws.written_changes_are_read.Goals as goal
-
-pub returns : goal.returns
-returns c = written_changes_are_read c.written_is_read.ensures c.names_are_line_words.ensures

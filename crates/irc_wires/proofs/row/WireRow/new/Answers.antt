@@ -1,5 +1,0 @@
-use Rattle.irc_wires.proofs.LeanRows.{lean_empty}
-use Rattle.irc_wires.proofs.row.WireRow.new.Goals as goal
-
-pub invariant_of-result : goal.invariant_of-result
-invariant_of-result c = lean_empty c.new.result.entries c.new.ensures.empty

@@ -1,7 +1,0 @@
-use Rattle.std.proofs.Common.{subst, sym}
-use Rattle.irc_wires.specs.Wires.{AreLean}
-use Rattle.irc_wires.proofs.LeanRows.{none_kept}
-use Rattle.irc_wires.proofs.wires.Wires.new.Goals as goal
-
-pub invariant_of-result : goal.invariant_of-result
-invariant_of-result c = subst AreLean (sym c.loop.invariant) (none_kept c.loop.counter)

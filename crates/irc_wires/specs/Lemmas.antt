@@ -1,3 +1,0 @@
--- Lemmas that crates above cite.
-pub mod StillWires
-pub mod PutWires

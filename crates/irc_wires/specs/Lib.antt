@@ -1,3 +1,0 @@
-pub mod Wires
-pub mod Loops
-pub mod Lemmas
