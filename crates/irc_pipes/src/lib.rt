@@ -3,9 +3,9 @@
 #![tactic(auto)]
 
 pub mod laws;
-mod row;
 mod pipe;
 mod pipes;
+mod row;
 
 pub use pipe::LinkPipe;
 pub use pipes::Pipes;

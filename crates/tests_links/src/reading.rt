@@ -3,8 +3,8 @@
 use crate::shown::{ShownText, append, append_word, first_word, show, show_fault, sides};
 use crate::stage::{Stage, StageTest, apply, test_holds};
 use irc_line::parse;
-use irc_room::Effect;
 use irc_readback::{read_effect, write_effect};
+use irc_room::Effect;
 use std::alloc::Global;
 use std::process::Abort;
 

@@ -2,9 +2,9 @@
 use arrayvec::ArrayVec;
 use irc_modes::{ModeChange, ModeLetter};
 use irc_names::Nick;
+use irc_readback::WireFault;
 use irc_room::{By, Effect, Target};
 use irc_users::{User, UserChange};
-use irc_readback::WireFault;
 
 /// What is read of a line, or written.
 pub type ShownText = ArrayVec<u8, 600>;
