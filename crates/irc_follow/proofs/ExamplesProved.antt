@@ -29,7 +29,8 @@ one_row q r =
 
 -- the first number that a server gives is 2, and the second 3
 first_number : (name : Name) → smallest_free (itself_only name) ≡ 2
-first_number name = ap smallest_free_in (knows_no_other name (says (codes "A server") (codes "today")))
+first_number name =
+    ap smallest_free_in (knows_no_other name (says (codes "A server") (codes "today")))
 
 abbrev row_with : ℕ → List ℕ → ℕ → ServerRow
 row_with link name ours = record {

@@ -25,4 +25,5 @@ place_is_worlds s links routes t fixed forest ends right among =
           ∙ ap (λ n. values (tabulate (names_of s.settings) (known_from s.settings links n)))
           name) i;
     })
-    ∙ sym (ap (λ o. option_map_or (joined_place s.settings links) o (alone t says_nothing)) setting.is)
+    ∙ sym (ap
+          (λ o. option_map_or (joined_place s.settings links) o (alone t says_nothing)) setting.is)

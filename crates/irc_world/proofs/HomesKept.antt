@@ -33,7 +33,8 @@ named [] all links server = refl
 named (s ∷ settings) all links server = by (tell s.name server) (named settings all links server)
   where
     by : Telling s.name server → (option_map_or (joined_place all links)
-        (find (λ (t : Setting). same t.name server) settings) (alone server says_nothing)).name ≡ server
+        (find (λ (t : Setting). same t.name server) settings) (alone server says_nothing)).name
+            ≡ server
         → (option_map_or (joined_place all links)
         (cond (same s.name server) (Some s) (find (λ (t : Setting). same t.name server) settings))
         (alone server says_nothing)).name ≡ server

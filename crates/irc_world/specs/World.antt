@@ -91,7 +91,8 @@ joined_place settings links own = record {
 -- where the clients of a server are; a name that is no server's stands alone
 abbrev pub place_at : List Setting → List Link → Name → Place
 place_at settings links server =
-    option_map_or (joined_place settings links) (setting_of settings server) (alone server says_nothing)
+    option_map_or (joined_place settings links) (setting_of settings server)
+        (alone server says_nothing)
 
 -- the room machine of a part, as one of its servers' clients meet it
 abbrev pub machine_at : List Setting → World → Name → RoomMachine

@@ -46,8 +46,8 @@ pub record IsKnownOfHandshakes : Type 0 where
 
 -- ---- SERVER
 
-greeting_plain : IsKnownOfHandshakes → (known : Known) → IsServer known.name → IsInfo known.about.info
-    → IsPlain (greeting known)
+greeting_plain : IsKnownOfHandshakes → (known : Known) → IsServer known.name
+    → IsInfo known.about.info → IsPlain (greeting known)
 greeting_plain laws known name info = record {
   prefix_no_space = refl;
   prefix_no_nul = refl;
@@ -56,12 +56,14 @@ greeting_plain laws known name info = record {
     (laws.lines.names.server known.name name).plain,
     (command_plain _ _ refl refl refl, (command_plain _ _ refl refl refl, tt)),
   );
-  last_no_nul = text_no_nul known.about.info (first_so (list_all is_text_byte known.about.info) _ info);
+  last_no_nul =
+      text_no_nul known.about.info (first_so (list_all is_text_byte known.about.info) _ info);
   count = lit≤ tt;
 }
 
-pub greeting_is_read : IsKnownOfHandshakes → (known : Known) → IsServer known.name
-    → IsInfo known.about.info → read_of (line_text (greeting known)) ≡ Ok (message_of (greeting known))
+pub greeting_is_read : IsKnownOfHandshakes → (known : Known)
+    → IsServer known.name → IsInfo known.about.info
+    → read_of (line_text (greeting known)) ≡ Ok (message_of (greeting known))
 greeting_is_read laws known name info =
     sym (laws.lines.alone (line_text (greeting known)) (Ok (message_of (greeting known)))
     (laws.lines.written (greeting known) (greeting_plain laws known name info)
@@ -82,7 +84,8 @@ pub greeting_opening : (known : Known) → IsInfo known.about.info → (has_pass
     ≡ Some (greeting_opens has_password (Some (known.name, known.about.info)))
 unfolding opening_of
 greeting_opening known info has_password = ap (λ b.
-    Some (greeting_opens has_password (if b then Some (known.name, known.about.info) else None))) info
+    Some (greeting_opens has_password (if b then Some (known.name, known.about.info)
+            else None))) info
 
 -- ---- what a server that is not met hears of it
 
@@ -90,8 +93,8 @@ greeting_opening known info has_password = ap (λ b.
 pub data HearsGreeting (view : View) (k : ℕ) (end : End) (known : Known) : Type 0 where
   it_closes : (why : CloseReason) → heard view k end (read_of (line_text (greeting known)))
       ≡ closes why → HearsGreeting view k end known
-  it_meets : heard view k end (read_of (line_text (greeting known))) ≡ meets known.name known.about.info
-      → HearsGreeting view k end known
+  it_meets : heard view k end (read_of (line_text (greeting known)))
+      ≡ meets known.name known.about.info → HearsGreeting view k end known
 
 module _ (laws : IsKnownOfHandshakes) (view : View) (k : ℕ) (end : End) (known : Known)
     (not_met : is_met end ≡ false) (name : IsServer known.name)
@@ -119,14 +122,16 @@ module _ (laws : IsKnownOfHandshakes) (view : View) (k : ℕ) (end : End) (known
           (unwrap_or end.password []) view.routes known.name) known.name known.about.info
           → HearsGreeting view k end known
       met_or None e is = it_meets (is ∙ ap (λ o. met_unless o known.name known.about.info) e)
-      met_or (Some why) e is = it_closes why (is ∙ ap (λ o. met_unless o known.name known.about.info) e)
+      met_or (Some why) e is =
+          it_closes why (is ∙ ap (λ o. met_unless o known.name known.about.info) e)
 
       by : (b : Bool) → is_some end.password ≡ b → HearsGreeting view k end known
       by false e = it_closes reason.Order (heard_is
           ∙ ap (λ b. opened view end (greeting_opens b (Some (known.name, known.about.info)))) e)
       by true e = met_or (refusal (password_for view known.name)
           (unwrap_or end.password []) view.routes known.name) refl
-          (heard_is ∙ ap (λ b. opened view end (greeting_opens b (Some (known.name, known.about.info)))) e
+          (heard_is ∙ ap
+                (λ b. opened view end (greeting_opens b (Some (known.name, known.about.info)))) e
           ∙ ap (λ b. opened view end (if b then Ok (opening.Greeting known.name known.about.info)
           else Err reason.UnknownPeer)) name)
 
