@@ -1,6 +1,6 @@
 -- What the code's rows keep, and what they are seen as, after each change.
 use Rattle.std.proofs.Common.{◌≡◌, ℕ, suc, zero, not, ◌&&◌, List, [], ◌∷◌, map, filter, take}
-use Rattle.std.proofs.Common.{drop, length, refl, sym, ◌∙◌, ap, subst, Some, None, Result, Ok, Err}
+use Rattle.std.proofs.Common.{drop, refl, sym, ◌∙◌, ap, subst, Some, None, Result, Ok, Err}
 use Rattle.std.proofs.Common.{arith}
 use Rattle.std.proofs.lemmas.List.{length-map}
 use Rattle.std.specs.Prelude.{OnOk, OnErr}
