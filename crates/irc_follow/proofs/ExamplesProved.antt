@@ -10,7 +10,6 @@ use Rattle.irc_relay.specs.Links.{Name, same, toward, distance, part}
 use Rattle.irc_routes.specs.declared.server_row.ServerRow.{ServerRow}
 use Rattle.irc_routes.specs.About.{says}
 use Rattle.irc_routes.specs.Known.{Known, added, is_itself, is_known, row_of, smallest_free}
-use Rattle.irc_routes.specs.About.{says}
 use Rattle.irc_routes.specs.Known.{smallest_free_in, token_out}
 use Rattle.irc_stage.specs.Lemmas.Alone.{knows_no_other}
 use Rattle.irc_follow.specs.Examples.{a, b, c, three, itself_only, first_routes, two_of_three}
