@@ -6,12 +6,13 @@ use Rattle.irc_room.specs.effect.By.TheVariants as by
 use Rattle.irc_room.specs.effect.Effect.{Effect}
 use Rattle.irc_room.specs.effect.Effect.TheVariants.{AddUser, Join, ChangeModes, SetTopic}
 use Rattle.irc_room.specs.Examples.{room_after, set}
+use Rattle.irc_routes.specs.About.{says}
 use Rattle.irc_routes.specs.Known.{Known, alone_known}
 use Rattle.irc_burst_lines.specs.BurstLines.{burst_parts}
 
 -- a.net, which knows no other server
 abbrev pub alone : Known
-alone = alone_known (codes "a.net") (codes "Test server") (codes "2024-01-01")
+alone = alone_known (codes "a.net") (says (codes "Test server") (codes "2024-01-01"))
 
 -- al of a.net comes, and makes #m
 abbrev pub al_comes : Effect

@@ -56,7 +56,7 @@ user_of place pending nickname username = record {
 
 -- what a new user is told of the server
 abbrev pub server_told : Place → List Act
-server_told place = Answer (YourHost place.name) ∷ Answer (Created (bytes_kept place.created))
+server_told place = Answer (YourHost place.name) ∷ Answer (Created (bytes_kept place.about.created))
     ∷ Answer (MyInfo place.name) ∷ Answer NoMotd ∷ []
 
 -- the user is added, and welcomed (RFC 2812 section 5.1)

@@ -264,8 +264,7 @@ module _ {W : Type 0} (old : Daemons W) (place other conn : ℕ) (own theirs : V
       alike_up alike = record {
         alike = record {
           name = alike.alike.name;
-          info = alike.alike.info;
-          created = alike.alike.created;
+          about = alike.alike.about;
           rows = λ name.
               rows_by before (numbers_by (is_up called)) (row_of own.routes name)
               (row_of theirs.routes name) (alike.alike.rows name)
@@ -322,8 +321,7 @@ module _ {W : Type 0} (old : Daemons W) (place other conn : ℕ) (own theirs : V
     alike_lost alike = record {
       alike = record {
         name = alike.alike.name;
-        info = alike.alike.info;
-        created = alike.alike.created;
+        about = alike.alike.about;
         rows = λ name.
             rows_by before (numbers_by is_lost) (row_of own.routes name) (row_of theirs.routes name)
             (alike.alike.rows name)

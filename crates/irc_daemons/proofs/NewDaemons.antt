@@ -57,8 +57,7 @@ module _ (config : Config) where
     new_alike : AreAlike numbers view view
     new_alike = record {
       name = refl;
-      info = refl;
-      created = refl;
+      about = refl;
       rows = λ name. subst (λ o. AreRowsAlike numbers o o) (sym (no_row name)) tt;
       peers = refl;
       ends = λ y. no_end y ∙ sym (ap (option_and_then (get view.ends)) (no_links y));

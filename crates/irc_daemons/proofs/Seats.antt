@@ -120,8 +120,7 @@ module _ {W : Type 0} (old : Daemons W) (place conn : ℕ) where
   alike_then own other alike free next = record {
     alike = record {
       name = alike.alike.name;
-      info = alike.alike.info;
-      created = alike.alike.created;
+      about = alike.alike.about;
       rows = λ name. rows_are (row_of own.routes name) (row_of other.routes name)
           (alike.alike.rows name);
       peers = alike.alike.peers;

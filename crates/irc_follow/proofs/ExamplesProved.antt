@@ -8,6 +8,7 @@ use Rattle.irc_names.specs.Tables.{alter, fold_cmp, row}
 use Rattle.irc_names.specs.TableLaws.{row-alter, row-alter_same, same_fold, same_table}
 use Rattle.irc_relay.specs.Links.{Name, same, toward, distance, part}
 use Rattle.irc_routes.specs.declared.server_row.ServerRow.{ServerRow}
+use Rattle.irc_routes.specs.About.{says}
 use Rattle.irc_routes.specs.Known.{Known, added, is_itself, is_known, row_of, smallest_free}
 use Rattle.irc_routes.specs.Known.{smallest_free_in, token_out}
 use Rattle.irc_stage.specs.Lemmas.Alone.{knows_no_other}
@@ -27,7 +28,8 @@ one_row q r =
 
 -- the first number that a server gives is 2, and the second 3
 first_number : (name : Name) → smallest_free (itself_only name) ≡ 2
-first_number name = ap smallest_free_in (knows_no_other name (codes "A server") (codes "today"))
+first_number name =
+    ap smallest_free_in (knows_no_other name (says (codes "A server") (codes "today")))
 
 abbrev row_with : ℕ → List ℕ → ℕ → ServerRow
 row_with link name ours = record {

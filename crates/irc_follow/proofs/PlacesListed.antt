@@ -13,13 +13,14 @@ use Rattle.irc_relay.specs.Links.{Name, Link, joined, distance, IsForest}
 use Rattle.irc_relay.specs.Lemmas.TellingNames.{Telling, alike, unlike, tell}
 use Rattle.irc_relay.specs.Lemmas.NextHops.{distance_self}
 use Rattle.irc_routes.specs.declared.server_row.ServerRow.{ServerRow}
+use Rattle.irc_routes.specs.About.{About, says_nothing}
 use Rattle.irc_routes.specs.Known.{Known, by_name, itself, known_server, others, row_of}
 use Rattle.irc_routes.specs.Known.{server_table}
 use Rattle.irc_routes.specs.Place.{KnownServer}
 use Rattle.irc_routes.specs.Lemmas.RouteLaws.{entries_named, mapped_found}
 use Rattle.irc_world.specs.World.{Setting, is_server, known_from, setting_of}
 use Rattle.irc_follow.specs.Tree.{Shape}
-use Rattle.irc_follow.specs.SideState.{ItemSetting, info_in, IsItemSetting}
+use Rattle.irc_follow.specs.SideState.{ItemSetting, about_in, IsItemSetting}
 use Rattle.irc_follow.specs.AtRest.{AreRight}
 use Rattle.irc_follow.specs.Lemmas.SideAtRest.{joined_among, joined_so}
 use Rattle.irc_follow.specs.Lemmas.BehindLinks.{joined_test, row_is_there, row_says}
@@ -57,7 +58,7 @@ found_setting (first ∷ settings) server there =
 
 abbrev as_known : List Link → Name → Name → Setting → KnownServer
 as_known links own server other =
-    record { name = other.name; info = other.info; distance = distance links own server }
+    record { name = other.name; info = other.about.info; distance = distance links own server }
 
 module _ (s : ItemSetting) (links : List Link) (routes : Name → Known) (t : Name)
     (fixed : IsItemSetting s)
@@ -81,10 +82,10 @@ module _ (s : ItemSetting) (links : List Link) (routes : Name → Known) (t : Na
   own_setting : (q : Name) → IsAmong s.names q → HasSetting s.settings q
   own_setting q there = found_setting s.settings q (fixed.listed q ∙ there)
 
-  -- what a configured server describes
-  info_is : (q : Name) (own : Setting) → setting_of s.settings q ≡ Some own
-      → info_in s.settings q ≡ own.info
-  info_is q own is = ap (λ o. option_map_or (λ (x : Setting). x.info) o []) is
+  -- what a configured server says of itself
+  about_is : (q : Name) (own : Setting) → setting_of s.settings q ≡ Some own
+      → about_in s.settings q ≡ own.about
+  about_is q own is = ap (λ o. option_map_or (λ (x : Setting). x.about) o says_nothing) is
 
   as_configured : (q : Name) (own : Setting) → setting_of s.settings q ≡ Some own → joined links t q
       ≡ true → row (tabulate (names_of s.settings) (known_from s.settings links t)) q
@@ -118,7 +119,8 @@ module _ (s : ItemSetting) (links : List Link) (routes : Name → Known) (t : Na
       (ap (same_fold t) (right.named t among) ∙ same_fold-refl t)
       ∙ (λ i. Some (record {
         name = (right.named t among ∙ sym setting.named) i;
-        info = (right.described t among ∙ info_is t setting.own setting.is) i;
+        info = (ap (λ (a : About). a.info)
+            (right.about t among ∙ about_is t setting.own setting.is)) i;
         distance = sym (distance_self links t) i;
       }))
       ∙ sym (as_configured t setting.own setting.is (joined_test links t t refl))
@@ -149,7 +151,8 @@ module _ (s : ItemSetting) (links : List Link) (routes : Name → Known) (t : Na
           ap (option_map known_server) found.is
           ∙ (λ i. Some (record {
             name = (ap (λ (x : Shape). x.name) found.shape ∙ sym setting.named) i;
-            info = (ap (λ (x : Shape). x.info) found.shape ∙ info_is q setting.own setting.is) i;
+            info = (ap (λ (x : Shape). x.info) found.shape
+                ∙ ap (λ (a : About). a.info) (about_is q setting.own setting.is)) i;
             distance = ap (λ (x : Shape). x.distance) found.shape i;
           }))
           ∙ sym (as_configured q setting.own setting.is together)

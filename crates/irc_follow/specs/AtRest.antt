@@ -1,9 +1,9 @@
 -- The side of a server while nothing is under way: it is the world's. The servers that are joined
 -- to it are told of all that changes, they know each other, and their room and clients are those of
 -- their hall.
-use Rattle.std.specs.Prelude.{◌≡◌, ◌≤◌, ℕ, not, ◌&&◌, Some, None, List, [], ◌∷◌, map, if◌then◌else◌}
+use Rattle.std.specs.Prelude.{◌≡◌, ◌≤◌, ℕ, not, ◌&&◌, Some, None, List, ◌∷◌, map, if◌then◌else◌}
 use Rattle.std.specs.List.{list_any}
-use Rattle.std.specs.Option.{option_map, option_map_or}
+use Rattle.std.specs.Option.{option_map}
 use Rattle.irc_relay.specs.Distances.{EndsAreAmong, IsAmong}
 use Rattle.irc_relay.specs.Links.{Name, same, Link, joined, links_without, AreLinked, IsForest}
 use Rattle.irc_relay.specs.Relay.{TakesFrom}
@@ -13,11 +13,11 @@ use Rattle.irc_routes.specs.Known.{Known, names_behind, place_of, row_of, server
 use Rattle.irc_routes.specs.Known.{IsNumbered}
 use Rattle.irc_tables.specs.FoldedRows.{IsInFoldedOrder}
 use Rattle.irc_world.specs.Stepping.{servers_on_side}
-use Rattle.irc_world.specs.World.{Setting, World, place_at, setting_of}
+use Rattle.irc_world.specs.World.{World, place_at}
 use Rattle.irc_world.specs.WorldHolds.{IsWorld}
 use Rattle.irc_follow.specs.Tree.{index_in, shape, shape_in}
-use Rattle.irc_follow.specs.SideState.{ItemSetting, SideState, info_in, number, IsItemSetting}
-use Rattle.irc_follow.specs.SideState.{IsSoundSide}
+use Rattle.irc_follow.specs.SideState.{ItemSetting, SideState, about_in, info_in, number}
+use Rattle.irc_follow.specs.SideState.{IsItemSetting, IsSoundSide}
 
 abbrev pub side_state_of : ItemSetting → World → (Name → Known) → Name → SideState
 side_state_of s world routes server = record {
@@ -30,18 +30,12 @@ side_state_of s world routes server = record {
   hall = world.hall server;
 }
 
--- since when a server is
-abbrev pub created_in : List Setting → Name → List ℕ
-created_in settings server =
-    option_map_or (λ (own : Setting). own.created) (setting_of settings server) []
-
 -- Each server is what it is configured to be, and keeps a row of each other that it is joined to,
 -- and just those; what it keeps of it is as the links are. Its numbers are low, and of one that it
 -- tells a neighbour of its number is the one that the neighbour keeps.
 pub record AreRight (s : ItemSetting) (links : List Link) (routes : Name → Known) : Type 0 where
   pub named : (t : Name) → IsAmong s.names t → (routes t).name ≡ t
-  pub described : (t : Name) → IsAmong s.names t → (routes t).info ≡ info_in s.settings t
-  pub created : (t : Name) → IsAmong s.names t → (routes t).created ≡ created_in s.settings t
+  pub about : (t : Name) → IsAmong s.names t → (routes t).about ≡ about_in s.settings t
   pub rows : (t x : Name) → IsAmong s.names t
       → option_map shape (row_of (routes t) x)
       ≡ (if joined links x t && not (same x t)

@@ -1,6 +1,7 @@
 -- Numbers of three servers, computed.
 use Rattle.std.specs.Prelude.{◌≡◌, ◌||◌, Some, List, [], ◌∷◌, codes, if◌then◌else◌}
 use Rattle.irc_relay.specs.Links.{Name, same}
+use Rattle.irc_routes.specs.About.{says}
 use Rattle.irc_routes.specs.Known.{Known, added, alone_known, row_of, token_out}
 use Rattle.irc_follow.specs.Tree.{Tree, gained}
 
@@ -16,9 +17,9 @@ c = codes "c.net"
 abbrev pub three : List Name
 three = a ∷ b ∷ c ∷ []
 
--- how each describes itself, and when it was created
+-- what each says of itself
 abbrev pub itself_only : Name → Known
-itself_only name = alone_known name (codes "A server") (codes "today")
+itself_only name = alone_known name (says (codes "A server") (codes "today"))
 
 -- a.net and b.net know each other, and c.net nobody
 abbrev pub first_routes : Name → Known

@@ -21,6 +21,7 @@ use Rattle.irc_merge.specs.Deeds.{Deed, does, gains, loses, kills, after_deed, s
 use Rattle.irc_merge.specs.Quits.{collision_text}
 use Rattle.irc_relay.specs.Links.{Name, same, AreLinked}
 use Rattle.irc_relay.specs.Relay.{Streams, TakesFrom}
+use Rattle.irc_routes.specs.About.{About, says_nothing}
 use Rattle.irc_routes.specs.Limits.{max_servers}
 use Rattle.irc_stage.specs.declared.clients.Client.{Client}
 use Rattle.irc_stage.specs.declared.clients.Client.TheVariants.{Registering, Registered}
@@ -45,10 +46,14 @@ pub record ItemSetting : Type 0 where
 abbrev pub number : ItemSetting → Name → ℕ
 number s server = index_in s.names server
 
--- how a server describes itself
+-- what a server says of itself
+abbrev pub about_in : List Setting → Name → About
+about_in settings server =
+    option_map_or (λ (own : Setting). own.about) (setting_of settings server) says_nothing
+
+-- how it describes itself
 abbrev pub info_in : List Setting → Name → List ℕ
-info_in settings server =
-    option_map_or (λ (own : Setting). own.info) (setting_of settings server) []
+info_in settings server = (about_in settings server).info
 
 -- whether a server is a client's home
 abbrev pub is_home_of : List Name → Name → ℕ → Bool

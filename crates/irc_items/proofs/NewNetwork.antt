@@ -17,6 +17,7 @@ use Rattle.irc_relay.specs.Relay.{under_way, Covers}
 use Rattle.irc_names.specs.TableLaws.{row-each, same_table}
 use Rattle.irc_room.specs.Invitations.{inviting_only, is_at, of_home}
 use Rattle.irc_room.specs.Laws.{no_room}
+use Rattle.irc_routes.specs.About.{says_nothing}
 use Rattle.irc_routes.specs.Known.{Known, alone_known, row_of, IsNumbered}
 use Rattle.irc_routes.specs.Lemmas.NumberedRows.{numbered_alone}
 use Rattle.irc_stage.specs.declared.clients.Client.{Client}
@@ -104,8 +105,8 @@ module _ (world_holds : TakenMakeWorld) (side : SideAtRestIsSound) (net : Networ
   no_row t x among = ap (λ rows. row rows x) (new.servers t among).no_rows ∙ get-empty fold_cmp x
 
   alone : (t : Name) → IsAmong net.names t → IsNumbered (routes_in net t)
-  alone t among = subst IsNumbered (sym is) (numbered_alone known.name known.info known.created
-      configured.name configured.info configured.created)
+  alone t among = subst IsNumbered (sym is) (numbered_alone known.name known.about configured.name
+      configured.about)
     where
       known : Known
       known = routes_in net t
@@ -113,12 +114,10 @@ module _ (world_holds : TakenMakeWorld) (side : SideAtRestIsSound) (net : Networ
       configured : IsConfigured (view_at net t)
       configured = new.set_up.configured t among
 
-      is : routes_in net t ≡ alone_known (routes_in net t).name (routes_in net t).info
-          (routes_in net t).created
+      is : routes_in net t ≡ alone_known (routes_in net t).name (routes_in net t).about
       is i = record {
         name = (routes_in net t).name;
-        info = (routes_in net t).info;
-        created = (routes_in net t).created;
+        about = (routes_in net t).about;
         rows =
             (new.servers t among).no_rows i;
       }
@@ -129,9 +128,7 @@ module _ (world_holds : TakenMakeWorld) (side : SideAtRestIsSound) (net : Networ
   right : AreRight s [] (routes_in net)
   right = record {
     named = λ t among. (there net new.set_up t among).named;
-    described = λ t among. sym (ap (λ o. option_map_or (λ (own : Setting). own.info) o [])
-        (setting_there net new.set_up t among));
-    created = λ t among. sym (ap (λ o. option_map_or (λ (own : Setting). own.created) o [])
+    about = λ t among. sym (ap (λ o. option_map_or (λ (own : Setting). own.about) o says_nothing)
         (setting_there net new.set_up t among));
     rows = λ t x among. ap (option_map shape) (no_row t x among)
         ∙ sym (ap (λ b. if b then Some (shape_in s.names (info_in s.settings) [] t x) else None)

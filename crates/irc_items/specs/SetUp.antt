@@ -5,13 +5,12 @@ use Rattle.std.specs.Prelude.{unwrap_or}
 use Rattle.std.specs.List.{filter_map, AllByRecursion}
 use Rattle.std.specs.FinMap.{empty}
 use Rattle.std.specs.Option.{option_map}
-use Rattle.irc_names.specs.Limits.{max_created}
 use Rattle.irc_names.specs.Names.{IsServer}
 use Rattle.irc_link_words.specs.Passwords.{is_password}
 use Rattle.irc_relay.specs.Distances.{IsAmong}
 use Rattle.irc_relay.specs.Links.{Name, same}
 use Rattle.irc_room.specs.Laws.{no_room}
-use Rattle.irc_routes.specs.Info.{IsInfo}
+use Rattle.irc_routes.specs.About.{IsAbout, says_nothing}
 use Rattle.irc_routes.specs.Known.{Known, alone_known}
 use Rattle.irc_routes.specs.Limits.{max_servers}
 use Rattle.irc_stage.specs.View.{KnownPeer, View, new_view}
@@ -22,7 +21,7 @@ use Rattle.irc_network.specs.Network.{Network, Node, node_view}
 
 -- what is read of a name that is no server's: it knows nobody, and nobody is there
 abbrev pub no_view : View
-no_view = new_view (alone_known [] [] []) []
+no_view = new_view (alone_known [] says_nothing) []
 
 abbrev pub view_at : Network → Name → View
 view_at net server = unwrap_or (node_view net server) no_view
@@ -37,8 +36,7 @@ routes_in net server = (view_at net server).routes
 abbrev pub setting_now : View → Setting
 setting_now view = record {
   name = view.routes.name;
-  info = view.routes.info;
-  created = view.routes.created;
+  about = view.routes.about;
   peers = view.peers;
 }
 
@@ -60,8 +58,7 @@ HasPassword peer = is_password peer.password ≡ true
 -- what a server says of itself, and the passwords that it keeps, are such as can be told
 pub record IsConfigured (view : View) : Type 0 where
   pub name : IsServer view.routes.name
-  pub info : IsInfo view.routes.info
-  pub created : length view.routes.created ≤ max_created
+  pub about : IsAbout view.routes.about
   pub passwords : AllByRecursion HasPassword view.peers
 
 -- Each server is there under its name, no two have one name, and they are not too many.

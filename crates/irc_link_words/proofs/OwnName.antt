@@ -12,7 +12,7 @@ pointwise_itself [] = refl
 pointwise_itself (x ∷ xs) =
     ap (λ b. b && pointwise nat_eq xs xs) (eq-eqb x x refl) ∙ pointwise_itself xs
 
-pub own_info_known : (known : Known) → info_of known known.name ≡ Some known.info
+pub own_info_known : (known : Known) → info_of known known.name ≡ Some known.about.info
 own_info_known known =
-    ap (λ b. if b then Some known.info else option_map (λ (r : ServerRow). r.info)
+    ap (λ b. if b then Some known.about.info else option_map (λ (r : ServerRow). r.info)
     (row_of known known.name)) (pointwise_itself known.name)

@@ -28,4 +28,4 @@ pass_parts password = from_nobody (codes "PASS") (password ∷ version ∷ agree
 -- A server names itself, one link away and with number 1 (RFC 2813 section 4.1.2).
 abbrev pub greeting : Known → Written
 greeting known =
-    from_nobody (codes "SERVER") (known.name ∷ codes "1" ∷ codes "1" ∷ []) (Some known.info)
+    from_nobody (codes "SERVER") (known.name ∷ codes "1" ∷ codes "1" ∷ []) (Some known.about.info)

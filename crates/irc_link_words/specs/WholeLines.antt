@@ -12,4 +12,5 @@ abbrev pub PassFits : Type 0
 PassFits = (password : List ℕ) → IsPassword password → IsWhole (pass_parts password)
 
 abbrev pub GreetingFits : Type 0
-GreetingFits = (known : Known) → IsServer known.name → IsInfo known.info → IsWhole (greeting known)
+GreetingFits = (known : Known) → IsServer known.name → IsInfo known.about.info
+    → IsWhole (greeting known)

@@ -5,10 +5,9 @@ use Rattle.std.specs.List.{AllByRecursion, list_all, list_any}
 use Rattle.std.specs.List.Sorted.{IsPermutation}
 use Rattle.std.proofs.lemmas.List.Sorted.{length_permutation, list_any-IsPermutation}
 use borrow.Author.Tests.{ltb-false}
-use Rattle.irc_names.specs.Limits.{max_created}
-use Rattle.irc_names.specs.Names.{fits, is_server}
-use Rattle.irc_routes.specs.Info.{is_info}
-use Rattle.irc_server.specs.Configuring.{has_double, is_among, is_peer, is_some_text}
+use Rattle.irc_names.specs.Names.{is_server}
+use Rattle.irc_routes.specs.About.{about_of}
+use Rattle.irc_server.specs.Configuring.{has_double, is_about, is_among, is_peer}
 use Rattle.irc_server.specs.declared.config.Config.{Config}
 use Rattle.irc_server.specs.declared.config.ConfigFault.TheVariants as one
 use Rattle.irc_net.specs.declared.making.NetConfigFault.{NetConfigFault}
@@ -19,15 +18,14 @@ use Rattle.irc_net.specs.Loops.Ordering.{IsServerConfig}
 
 -- ---- one configuration
 
-own_name : (a b c d twice : Bool) → is_bad_name (if not ((a && b && c) && d) then Some one.BadName
+own_name : (a b c twice : Bool) → is_bad_name (if not ((a && b) && c) then Some one.BadName
     else (if twice then Some one.DoubleName else None)) ≡ false → a ≡ true
-own_name true b c d twice good = refl
-own_name false b c d twice good = cc good
+own_name true b c twice good = refl
+own_name false b c twice good = cc good
 
 named : (config : Config) → is_bad_config config ≡ false → IsServerConfig config
 named config good =
-    own_name (is_server config.own.name.items) (is_info config.own.info.items)
-    (is_some_text config.own.created.items && fits max_created config.own.created.items)
+    own_name (is_server config.own.name.items) (is_about (about_of config.own))
     (list_all is_peer config.peers.items)
     (is_among config.own.name.items config.peers.items || has_double config.peers.items) good
 

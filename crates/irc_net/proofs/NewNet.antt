@@ -20,8 +20,10 @@ use Rattle.irc_link_words.specs.Passwords.{is_password}
 use Rattle.irc_relay.specs.Distances.{IsAmong}
 use Rattle.irc_relay.specs.Links.{Name, same}
 use Rattle.irc_relay.specs.Lemmas.TellingNames.{Telling, alike, unlike, tell, same_unless}
+use Rattle.irc_routes.specs.About.{About, IsAbout, about_of}
 use Rattle.irc_routes.specs.Info.{is_info}
-use Rattle.irc_server.specs.Configuring.{has_double, is_among, is_peer, is_some_text, made_view}
+use Rattle.irc_server.specs.Configuring.{has_double, is_about, is_among, is_peer, is_some_text}
+use Rattle.irc_server.specs.Configuring.{made_view}
 use Rattle.irc_server.specs.declared.config.Config.{Config}
 use Rattle.irc_server.specs.declared.config.ConfigFault.TheVariants as one
 use Rattle.irc_stage.specs.View.{View, known_peer}
@@ -111,20 +113,30 @@ ordered_once configs ordered ones none server among =
 
 -- ---- each is configured
 
-pub record AreRules (named known dated peered : Bool) : Type 0 where
+pub record AreRules (named said peered : Bool) : Type 0 where
   pub named_so : named ≡ true
-  pub known_so : known ≡ true
-  pub dated_so : dated ≡ true
+  pub said_so : said ≡ true
   pub peered_so : peered ≡ true
 
-all_rules : (a b c d twice : Bool) → is_bad_name (if not ((a && b && c) && d) then Some one.BadName
-    else (if twice then Some one.DoubleName else None)) ≡ false → AreRules a b c d
-all_rules false b c d twice good = absurd (true≢false good)
-all_rules true false c d twice good = absurd (true≢false good)
-all_rules true true false d twice good = absurd (true≢false good)
-all_rules true true true false twice good = absurd (true≢false good)
-all_rules true true true true twice good =
-    record { named_so = refl; known_so = refl; dated_so = refl; peered_so = refl }
+all_rules : (a b c twice : Bool) → is_bad_name (if not ((a && b) && c) then Some one.BadName
+    else (if twice then Some one.DoubleName else None)) ≡ false → AreRules a b c
+all_rules false b c twice good = absurd (true≢false good)
+all_rules true false c twice good = absurd (true≢false good)
+all_rules true true false twice good = absurd (true≢false good)
+all_rules true true true twice good = record { named_so = refl; said_so = refl; peered_so = refl }
+
+-- what a server says of itself keeps its limits
+about_kept : (about : About) → is_about about ≡ true → IsAbout about
+about_kept about so = record {
+  info = parts.0;
+  created = leb-true (length about.created) max_created
+      (and_parts (is_some_text about.created) (fits max_created about.created) parts.1).1;
+}
+  where
+    parts : (is_info about.info ≡ true)
+        × ((is_some_text about.created && fits max_created about.created) ≡ true)
+    parts = and_parts (is_info about.info)
+        (is_some_text about.created && fits max_created about.created) so
 
 passwords_kept : (peers : List Peer) → list_all is_peer peers ≡ true
     → AllByRecursion HasPassword (map known_peer peers)
@@ -140,18 +152,13 @@ passwords_kept (peer ∷ peers) all = (
 configured : (config : Config) → is_bad_config config ≡ false → IsConfigured (made_view config)
 configured config good = record {
   name = rules.named_so;
-  info = rules.known_so;
-  created = leb-true (length config.own.created.items) max_created
-      (and_parts (is_some_text config.own.created.items)
-      (fits max_created config.own.created.items) rules.dated_so).1;
+  about = about_kept (about_of config.own) rules.said_so;
   passwords = passwords_kept config.peers.items rules.peered_so;
 }
   where
-    rules : AreRules (is_server config.own.name.items) (is_info config.own.info.items)
-        (is_some_text config.own.created.items && fits max_created config.own.created.items)
+    rules : AreRules (is_server config.own.name.items) (is_about (about_of config.own))
         (list_all is_peer config.peers.items)
-    rules = all_rules (is_server config.own.name.items) (is_info config.own.info.items)
-        (is_some_text config.own.created.items && fits max_created config.own.created.items)
+    rules = all_rules (is_server config.own.name.items) (is_about (about_of config.own))
         (list_all is_peer config.peers.items)
         (is_among config.own.name.items config.peers.items || has_double config.peers.items) good
 

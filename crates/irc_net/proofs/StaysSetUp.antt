@@ -115,8 +115,7 @@ reply_alike kept view read_event = by (serves_read_event view read_event)
 
     alike : IsSetAlike view (served view read_event).state
         → setting_now (served view read_event).state ≡ setting_now view
-    alike so i =
-        record { name = so.name i; info = so.info i; created = so.created i; peers = so.peers i }
+    alike so i = record { name = so.name i; about = so.about i; peers = so.peers i }
 
     by : (b : Bool) → setting_now (answer b).state ≡ setting_now view
     by true = alike (kept view read_event)

@@ -7,6 +7,7 @@ use Rattle.std.specs.FinMap.{empty}
 use Rattle.std.specs.Ordering.{nat_cmp}
 use Rattle.std.specs.Cmp.Lexicographic.{slice_cmp}
 use Rattle.irc_relay.specs.Links.{Name, same}
+use Rattle.irc_routes.specs.About.{about_of}
 use Rattle.irc_server.specs.Configuring.{config_fault, made_view}
 use Rattle.irc_server.specs.declared.config.Config.{Config}
 use Rattle.irc_server.specs.declared.config.ConfigFault.{ConfigFault}
@@ -77,8 +78,7 @@ made_of ordered = record {
 abbrev pub setting_given : Config → Setting
 setting_given config = record {
   name = config_name config;
-  info = config.own.info.items;
-  created = config.own.created.items;
+  about = about_of config.own;
   peers = map known_peer config.peers.items;
 }
 

@@ -116,7 +116,7 @@ Homes = Option (List (List ℕ))
 module _ (numbers : Numbers) (own other : View) (alike : AreAlike numbers own other) where
   pub known_of : AreKnownAlike numbers own.routes other.routes
   known_of =
-      record { name = alike.name; info = alike.info; created = alike.created; rows = alike.rows }
+      record { name = alike.name; about = alike.about; rows = alike.rows }
 
   pub client_at : (client conn : ℕ) → numbers.client client ≡ Some conn
       → get other.clients client ≡ get own.clients conn
@@ -148,8 +148,7 @@ module _ (numbers : Numbers) (own other : View) (alike : AreAlike numbers own ot
       (record other { clients = theirs; room = their_room })
   with_clients mine theirs my_room their_room clients no_other_client room = record {
     name = alike.name;
-    info = alike.info;
-    created = alike.created;
+    about = alike.about;
     rows = alike.rows;
     peers = alike.peers;
     ends = alike.ends;

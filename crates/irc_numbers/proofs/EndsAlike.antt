@@ -18,8 +18,7 @@ module _ (numbers : Numbers) (own other : View) (alike : AreAlike numbers own ot
       → AreAlike numbers (record own { routes = mine }) (record other { routes = theirs })
   routed mine theirs known = record {
     name = known.name;
-    info = known.info;
-    created = known.created;
+    about = known.about;
     rows = known.rows;
     peers = alike.peers;
     ends = alike.ends;
@@ -35,8 +34,7 @@ module _ (numbers : Numbers) (own other : View) (alike : AreAlike numbers own ot
       → AreAlike numbers (record own { ends = mine }) (record other { ends = theirs })
   ended mine theirs ends no_other_end = record {
     name = alike.name;
-    info = alike.info;
-    created = alike.created;
+    about = alike.about;
     rows = alike.rows;
     peers = alike.peers;
     ends = ends;
@@ -50,8 +48,7 @@ module _ (numbers : Numbers) (own other : View) (alike : AreAlike numbers own ot
       → AreAlike numbers (record own { room = mine }) (record other { room = theirs })
   housed mine theirs same = record {
     name = alike.name;
-    info = alike.info;
-    created = alike.created;
+    about = alike.about;
     rows = alike.rows;
     peers = alike.peers;
     ends = alike.ends;

@@ -79,8 +79,7 @@ module _ (old new : Numbers) (own other : View) (alike : AreAlike old own other)
   by_new : AreAlike new own other
   by_new = record {
     name = alike.name;
-    info = alike.info;
-    created = alike.created;
+    about = alike.about;
     rows = λ name. row_in_use name (row_of own.routes name) (row_of other.routes name) refl
         (alike.rows name);
     peers = alike.peers;

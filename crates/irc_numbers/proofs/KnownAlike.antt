@@ -42,8 +42,7 @@ use Rattle.irc_numbers.proofs.Numbers.{same_one}
 
 pub record AreKnownAlike (numbers : Numbers) (own other : Known) : Type 0 where
   pub name : other.name ≡ own.name
-  pub info : other.info ≡ own.info
-  pub created : other.created ≡ own.created
+  pub about : other.about ≡ own.about
   pub rows : (name : List ℕ) → AreRowsAlike numbers (row_of own name) (row_of other name)
 
 abbrev pub with_link : ℕ → ServerRow → ServerRow

@@ -94,7 +94,7 @@ module _ (numbers : Numbers) (apart : AreApart numbers) (place conn : ℕ)
     opening_same name = λ i.
         pass_parts (unwrap_or (password_same name i) [])
         ∷ from_nobody (codes "SERVER") (alike.name i ∷ codes "1" ∷ codes "1" ∷ [])
-        (Some (alike.info i)) ∷ []
+        (Some (alike.about i).info) ∷ []
 
     burst_alike : burst_parts other.room other.routes place ≡ burst_parts own.room own.routes conn
     burst_alike =

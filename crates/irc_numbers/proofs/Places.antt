@@ -12,6 +12,7 @@ use Rattle.std.specs.List.{cons_option}
 use Rattle.std.specs.Ordering.{eq_by_cmp, nat_cmp}
 use Rattle.std.specs.Prelude.{⊤}
 use Rattle.irc_names.specs.Lemmas.PlainFacts.{nat_eq-turned}
+use Rattle.irc_routes.specs.About.{About}
 use Rattle.irc_routes.specs.declared.server_row.ServerRow.{ServerRow}
 use Rattle.irc_routes.specs.Known.{Known, by_name, itself, known_server, link_key, links_of}
 use Rattle.irc_routes.specs.Known.{next_hop, others, place_of, row_of, server_table}
@@ -139,10 +140,11 @@ module _ (numbers : Numbers) (own other : Known) (alike : AreKnownAlike numbers 
       ap (λ (servers : List KnownServer). table_of by_name (itself other ∷ servers))
       (others_by numbers own other alike known_server known_server
       (λ mine theirs is. ap known_server is.0))
-      ∙ ap (λ name. table_of by_name (record { name = name; info = other.info; distance = 0 }
+      ∙ ap (λ name. table_of by_name (record { name = name; info = other.about.info; distance = 0 }
       ∷ map known_server (others own))) alike.name
-      ∙ ap (λ info. table_of by_name (record { name = own.name; info = info; distance = 0 }
-      ∷ map known_server (others own))) alike.info
+      ∙ ap (λ (about : About). table_of by_name
+      (record { name = own.name; info = about.info; distance = 0 }
+      ∷ map known_server (others own))) alike.about
 
   links_same : AreApart numbers → length (links_of other) ≡ length (links_of own)
   links_same apart =
@@ -155,8 +157,7 @@ module _ (numbers : Numbers) (own other : Known) (alike : AreKnownAlike numbers 
   pub place_same : AreApart numbers → place_of other ≡ place_of own
   place_same apart = λ i. record {
     name = alike.name i;
-    info = alike.info i;
-    created = alike.created i;
+    about = alike.about i;
     links = links_same apart i;
     servers = values (servers_same i);
   }

@@ -24,8 +24,7 @@ module _ (numbers : Numbers) (own other : Known) (alike : AreKnownAlike numbers 
       (added place uplink name distance token info other)
   added_alike place conn is_end uplink name distance token info = record {
     name = alike.name;
-    info = alike.info;
-    created = alike.created;
+    about = alike.about;
     rows = λ q.
         rows_from (cond (same_fold q name) (Some (new conn (smallest_free own))) (row own.rows q)) _
         (cond (same_fold q name) (Some (new place (smallest_free other))) (row other.rows q)) _
@@ -55,8 +54,7 @@ module _ (numbers : Numbers) (own other : Known) (alike : AreKnownAlike numbers 
       → AreKnownAlike numbers (without_server name own) (without_server name other)
   less_alike name = record {
     name = alike.name;
-    info = alike.info;
-    created = alike.created;
+    about = alike.about;
     rows = λ q.
         rows_from (cond (same_fold q name) None (row own.rows q)) _
         (cond (same_fold q name) None (row other.rows q)) _
@@ -73,8 +71,7 @@ module _ (numbers : Numbers) (own other : Known) (alike : AreKnownAlike numbers 
       → AreKnownAlike numbers (without_link conn own) (without_link place other)
   unlinked_alike apart place conn is_end = record {
     name = alike.name;
-    info = alike.info;
-    created = alike.created;
+    about = alike.about;
     rows = λ q.
         rows_from (option_and_then (unless_behind conn) (row own.rows q)) _
         (option_and_then (unless_behind place) (row other.rows q)) _

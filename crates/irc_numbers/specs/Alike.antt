@@ -46,8 +46,7 @@ AreRowsAlike numbers (Some own) None = ⊥
 -- An engine's server is as one of a network.
 pub record AreAlike (numbers : Numbers) (own other : View) : Type 0 where
   pub name : other.routes.name ≡ own.routes.name
-  pub info : other.routes.info ≡ own.routes.info
-  pub created : other.routes.created ≡ own.routes.created
+  pub about : other.routes.about ≡ own.routes.about
   pub rows : (name : List ℕ)
       → AreRowsAlike numbers (row_of own.routes name) (row_of other.routes name)
   pub peers : other.peers ≡ own.peers

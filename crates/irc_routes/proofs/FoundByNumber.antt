@@ -13,6 +13,7 @@ use Rattle.irc_names.specs.Lemmas.PlainFacts.{is_true}
 use Rattle.irc_names.specs.Tables.{Table, row, alter, fold_cmp}
 use Rattle.irc_names.specs.TableLaws.{same_fold, same_fold-refl, one_fold, row-alter, row-each}
 use Rattle.irc_tables.specs.Lemmas.OrderedEntries.{find-there, sorted-below}
+use Rattle.irc_routes.specs.About.{About}
 use Rattle.irc_routes.specs.Known.{Known, ServerRow, others, alone_known, row_of, has_token}
 use Rattle.irc_routes.specs.Known.{token_in, unless_behind, without_server, without_link}
 use Rattle.irc_routes.specs.Known.{IsNumbered}
@@ -133,10 +134,10 @@ token_kept old now was is link token there back = by (find (has_token link token
 
 -- ---- what a number stands for after each change
 
-pub token_alone : (name info created : List ℕ) (link token : ℕ)
-    → token_in (alone_known name info created) link token ≡ None
-token_alone name info created link token =
-    token_none (alone_known name info created) link token (λ q r there.
+pub token_alone : (name : List ℕ) (about : About) (link token : ℕ)
+    → token_in (alone_known name about) link token ≡ None
+token_alone name about link token =
+    token_none (alone_known name about) link token (λ q r there.
     let clash = sym (get-empty fold_cmp q) ∙ there in
     cc clash)
 

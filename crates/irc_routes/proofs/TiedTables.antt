@@ -1,12 +1,11 @@
 -- Both tables of the code tell the same after each change.
-use Rattle.std.proofs.Common.{◌≡◌, ℕ, ◌≤◌, List, [], length, refl, sym, ◌∙◌, ap, subst, Some, None}
+use Rattle.std.proofs.Common.{◌≡◌, ℕ, List, [], refl, sym, ◌∙◌, ap, subst, Some, None}
 use Rattle.std.proofs.lemmas.Bool.{or_parts}
-use Rattle.irc_names.specs.Limits.{max_created}
 use Rattle.irc_names.specs.Names.{IsServer}
 use Rattle.irc_tables.specs.FoldedRows.{table_of, IsInFoldedOrder}
 use Rattle.irc_tables.specs.Lemmas.RowsAsTable.{alter-absent}
+use Rattle.irc_routes.specs.About.{About, IsAbout}
 use Rattle.irc_routes.specs.Adding.{added_fault}
-use Rattle.irc_routes.specs.Info.{IsInfo}
 use Rattle.irc_routes.specs.Known.{Known, ServerRow, row_of, token_in, without_server, without_link}
 use Rattle.irc_routes.specs.Known.{IsNumbered}
 use Rattle.irc_routes.specs.Loops.Rows.{entry, known_by, IsKept, HasMore}
@@ -17,19 +16,18 @@ use Rattle.irc_routes.specs.Lemmas.NumberedRows.{admitted, map_none}
 use Rattle.irc_routes.proofs.FoundByNumber.{nobody_of}
 use Rattle.irc_routes.proofs.TokensTold.{told_alone, told_added, told_forgotten, told_lost}
 
-pub alone_tied : (name info created : List ℕ) (rows : List ServerRow) (tokens : List TokenRow)
-    → rows ≡ [] → tokens ≡ [] → IsServer name → IsInfo info → length created ≤ max_created
-    → IsTied name info created rows tokens
-alone_tied name info created rows tokens none untold rule limits fits = record {
-  kept = alone_kept name info created rows none rule limits fits;
-  told = subst (λ known. AreTold known tokens) (sym (alone_is name info created rows none))
-      (told_alone name info created tokens untold);
+pub alone_tied : (name : List ℕ) (about : About) (rows : List ServerRow) (tokens : List TokenRow)
+    → rows ≡ [] → tokens ≡ [] → IsServer name → IsAbout about → IsTied name about rows tokens
+alone_tied name about rows tokens none untold rule limits = record {
+  kept = alone_kept name about rows none rule limits;
+  told = subst (λ known. AreTold known tokens) (sym (alone_is name about rows none))
+      (told_alone name about tokens untold);
 }
 
-module _ (name info created : List ℕ) (rows : List ServerRow) (tokens : List TokenRow)
-    (tied : IsTied name info created rows tokens) where
+module _ (name : List ℕ) (about : About) (rows : List ServerRow) (tokens : List TokenRow)
+    (tied : IsTied name about rows tokens) where
   abbrev before : Known
-  before = known_by name info created rows
+  before = known_by name about rows
 
   -- a number that stands for no server has no row
   pub unused_at : (link token : ℕ) → token_in before link token ≡ None
@@ -38,10 +36,10 @@ module _ (name info created : List ℕ) (rows : List ServerRow) (tokens : List T
       (tied.told.told link token ∙ unused)
 
   module _ (left : List ServerRow) (now : List TokenRow)
-      (after : IsKept name info created left) where
+      (after : IsKept name about left) where
     pub added_tied : (new : ServerRow) (called : List ℕ) → new.name ≡ called
         → added_fault before called ≡ None → HasMore new rows left → HasServer new tokens now
-        → IsTied name info created left now
+        → IsTied name about left now
     added_tied new called named admits is has =
         let more = ap (λ t. record before { rows = t }) is in
         let absent =
@@ -55,8 +53,8 @@ module _ (name info created : List ℕ) (rows : List ServerRow) (tokens : List T
               refl has.told has.ordered);
         }
 
-    pub lost_tied : (link : ℕ) → known_by name info created left ≡ without_link link before
-        → AreElsewhere link tokens now → IsTied name info created left now
+    pub lost_tied : (link : ℕ) → known_by name about left ≡ without_link link before
+        → AreElsewhere link tokens now → IsTied name about left now
     lost_tied link is elsewhere = record {
       kept = after;
       told = subst (λ known. AreTold known now) (sym is)
@@ -65,9 +63,9 @@ module _ (name info created : List ℕ) (rows : List ServerRow) (tokens : List T
     }
 
     pub forgotten_tied : (gone : List ℕ) (server : ServerRow)
-        → known_by name info created left ≡ without_server gone before
+        → known_by name about left ≡ without_server gone before
         → row_of before gone ≡ Some server → IsWithoutToken server.link server.token tokens now
-        → IsInFoldedOrder token_entry now → IsTied name info created left now
+        → IsInFoldedOrder token_entry now → IsTied name about left now
     forgotten_tied gone server is stood without ordered =
         let named = (tied.kept.numbered.rows gone server stood).named in
         let same = is ∙ ap (λ n. without_server n before) (sym named) in
@@ -79,9 +77,9 @@ module _ (name info created : List ℕ) (rows : List ServerRow) (tokens : List T
         }
 
   -- where no server was forgotten both tables stay
-  pub unknown_tied : (gone : List ℕ) (left : List ServerRow) → IsKept name info created left
-      → known_by name info created left ≡ without_server gone before → row_of before gone ≡ None
-      → IsTied name info created left tokens
+  pub unknown_tied : (gone : List ℕ) (left : List ServerRow) → IsKept name about left
+      → known_by name about left ≡ without_server gone before → row_of before gone ≡ None
+      → IsTied name about left tokens
   unknown_tied gone left after is none = record {
     kept = after;
     told = subst (λ known. AreTold known tokens) (sym (is ∙ ap (λ t. record before { rows = t })

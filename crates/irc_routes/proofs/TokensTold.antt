@@ -11,6 +11,7 @@ use Rattle.irc_names.specs.Tables.{row, alter, fold_cmp}
 use Rattle.irc_names.specs.TableLaws.{same_fold, same_fold-refl, one_fold, row-alter, row-each}
 use Rattle.irc_tables.specs.FoldedRows.{table_of, IsInFoldedOrder}
 use Rattle.irc_tables.specs.Lemmas.RowsAsTable.{row-table_of, nothing-sorted, nothing-table}
+use Rattle.irc_routes.specs.About.{About}
 use Rattle.irc_routes.specs.Known.{Known, ServerRow, alone_known, row_of, has_token, without_server}
 use Rattle.irc_routes.specs.Known.{without_link, IsNumbered}
 use Rattle.irc_routes.specs.Lemmas.TableRows.{filtered-sorted, filtered-table}
@@ -51,15 +52,15 @@ key_same link token a b = both_ways _ _ there back
         ((Decides-eqb b token).0 parts.1)
         ∙ same_fold-refl (token_key link token)
 
-pub told_alone : (name info created : List ℕ) (tokens : List TokenRow) → tokens ≡ []
-    → AreTold (alone_known name info created) tokens
-told_alone name info created tokens none = record {
+pub told_alone : (name : List ℕ) (about : About) (tokens : List TokenRow) → tokens ≡ []
+    → AreTold (alone_known name about) tokens
+told_alone name about tokens none = record {
   ordered = subst (λ ts. IsInFoldedOrder token_entry ts) (sym none) (nothing-sorted token_entry);
   told = λ link token.
       ap (λ ts. server_at ts link token) none
       ∙ ap (λ table. name_of (row table (token_key link token))) (nothing-table token_entry)
       ∙ ap name_of (get-empty fold_cmp (token_key link token))
-      ∙ sym (token_alone name info created link token);
+      ∙ sym (token_alone name about link token);
 }
 
 by_either : (b : Bool) (one other : Option TokenRow)

@@ -1,3 +1,4 @@
+pub mod About
 pub mod Adding
 pub mod Info
 pub mod Known

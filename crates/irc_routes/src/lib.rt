@@ -1,6 +1,7 @@
 //! The servers that a server knows, and the numbers that stand for them on links.
 #![tactic(auto)]
 
+mod about;
 mod adding;
 mod fault;
 mod info;

@@ -1,6 +1,6 @@
 -- The network that is made of a script's configurations is the first one.
 use Rattle.std.proofs.Common.{◌≡◌, ℕ, ◌+◌, ◌<◌, suc, true, false, not, Some, length, arith}
-use Rattle.std.proofs.Common.{slice_index_or, List, [], ◌∷◌, codes, map, ap, subst, refl, ◌∙◌}
+use Rattle.std.proofs.Common.{slice_index_or, List, [], ◌∷◌, map, ap, subst, refl, ◌∙◌}
 use Rattle.std.proofs.lemmas.List.Elements.{All-from_recursion, recursion_from_All}
 use Rattle.std.proofs.lemmas.List.Sorted.{All-permutation, IsPermutation-map, IsPermutation-sym}
 use Rattle.std.proofs.lemmas.List.Sorted.{IsPermutation-trans}
@@ -23,6 +23,7 @@ use Rattle.irc_net.specs.config.Config.{Config}
 use Rattle.irc_net.specs.View.{KnownPeer, known_peer}
 use Rattle.irc_script.specs.Loops.Configs.{AreConfigured, IsOwnConfig}
 use Rattle.irc_script.specs.Networks.{exceeds, first_net, first_node, in_name_order, is_greater}
+use Rattle.irc_script.specs.Networks.{script_about}
 use Rattle.irc_script.specs.RunLaws.{are_ordered}
 use Rattle.irc_script.proofs.InOrder.{exceeds_one, is_in_order, none_less}
 use Rattle.irc_script.proofs.InOrder.{none_less_too, one_order, order_moves, turned}
@@ -81,12 +82,9 @@ node_of routes peers = record {
 node_is : (names : List Name) (config : Config) → IsOwnConfig names config
     → new_node config ≡ first_node names (config_name config)
 node_is names config own =
-    ap (λ info. node_of (alone_known (config_name config) info config.own.created.items)
-    (map known_peer config.peers.items)) own.info
-    ∙ ap (λ created. node_of (alone_known (config_name config) (codes "Test server") created)
-    (map known_peer config.peers.items)) own.created
-    ∙ ap (node_of (alone_known (config_name config) (codes "Test server") (codes "2024-01-01")))
-    own.peers
+    ap (λ about. node_of (alone_known (config_name config) about)
+    (map known_peer config.peers.items)) own.about
+    ∙ ap (node_of (alone_known (config_name config) script_about)) own.peers
 
 nodes_are : (names : List Name) (configs : List Config) → AllByRecursion (IsOwnConfig names) configs
     → map new_node configs ≡ map (first_node names) (map config_name configs)

@@ -199,7 +199,11 @@ all_passwords server (other ∷ names) = by (same other server) (all_passwords s
 configured : (names : List Name) (server : Name) → IsServer server
     → IsConfigured (first_view names server)
 configured names server is =
-    record { name = is; info = refl; created = omega arith; passwords = all_passwords server names }
+    record {
+      name = is;
+      about = record { info = refl; created = omega arith };
+      passwords = all_passwords server names;
+    }
 
 all_configured : (names ordered : List Name) → AllByRecursion IsServer ordered
     → AllByRecursion (λ (server : Name). IsConfigured (first_view names server)) ordered

@@ -12,6 +12,7 @@ use Rattle.irc_net.specs.Whole.{no_pipes}
 use Rattle.irc_net.specs.Network.{Network, Node}
 use Rattle.irc_relay.specs.Links.{Name, same}
 use Rattle.irc_room.specs.Laws.{no_room}
+use Rattle.irc_routes.specs.About.{About, says}
 use Rattle.irc_routes.specs.Known.{alone_known}
 use Rattle.irc_net.specs.View.{KnownPeer, View}
 use Rattle.irc_net.specs.World.{Setting}
@@ -29,19 +30,22 @@ peer_of server other =
 abbrev pub peers_for : Name → List Name → List KnownPeer
 peers_for server names = filter_map (peer_of server) names
 
+-- what each server of a script says of itself
+abbrev pub script_about : About
+script_about = says (codes "Test server") (codes "2024-01-01")
+
 -- how the server of a name is set up
 abbrev pub script_setting : List Name → Name → Setting
 script_setting names server = record {
   name = server;
-  info = codes "Test server";
-  created = codes "2024-01-01";
+  about = script_about;
   peers = peers_for server names;
 }
 
 -- one of these servers: no link, and nobody connected
 abbrev pub first_view : List Name → Name → View
 first_view names server = record {
-  routes = alone_known server (codes "Test server") (codes "2024-01-01");
+  routes = alone_known server script_about;
   peers = peers_for server names;
   ends = empty;
   clients = empty;

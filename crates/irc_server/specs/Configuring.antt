@@ -6,6 +6,7 @@ use Rattle.std.specs.Cmp.Lexicographic.{pointwise}
 use Rattle.irc_names.specs.Limits.{max_created}
 use Rattle.irc_names.specs.Names.{is_server, fits}
 use Rattle.irc_routes.specs.declared.own.Own.{Own}
+use Rattle.irc_routes.specs.About.{About, about_of}
 use Rattle.irc_routes.specs.Info.{is_info, is_text_byte}
 use Rattle.irc_routes.specs.Known.{alone_known}
 use Rattle.irc_link_words.specs.Passwords.{is_password}
@@ -22,11 +23,14 @@ abbrev pub is_some_text : List ℕ → Bool
 is_some_text [] = false
 is_some_text (first ∷ rest) = is_text (first ∷ rest)
 
--- a server's name, how it describes itself, and when it was created
+-- whether this may be what a server says of itself: it has to say when it was created
+abbrev pub is_about : About → Bool
+is_about about =
+    is_info about.info && (is_some_text about.created && fits max_created about.created)
+
+-- a server's name, and what it says of itself
 abbrev pub is_own : Own → Bool
-is_own own =
-    is_server own.name.items && is_info own.info.items
-    && (is_some_text own.created.items && fits max_created own.created.items)
+is_own own = is_server own.name.items && is_about (about_of own)
 
 abbrev pub is_peer : Peer → Bool
 is_peer peer = is_server peer.name.items && is_password peer.password.items
@@ -50,8 +54,8 @@ config_fault config =
 
 -- the server that a configuration makes: it has no clients and no links
 abbrev pub made_view : Config → View
-made_view config = new_view (alone_known config.own.name.items config.own.info.items
-    config.own.created.items) config.peers.items
+made_view config =
+    new_view (alone_known config.own.name.items (about_of config.own)) config.peers.items
 
 -- what comes of a configuration; no memory is wanted for it
 abbrev pub IsMade : Config → Result (Option View) ConfigFault → Type 0

@@ -85,8 +85,7 @@ ServedStaysMatched =
 pub record IsSetAlike (old new : View) : Type 0 where
   pub peers : new.peers ≡ old.peers
   pub name : new.routes.name ≡ old.routes.name
-  pub info : new.routes.info ≡ old.routes.info
-  pub created : new.routes.created ≡ old.routes.created
+  pub about : new.routes.about ≡ old.routes.about
 
 -- It is so whatever is served.
 abbrev pub ServedKeepsItsSetting : Type 0

@@ -2,7 +2,15 @@
 ghost use Rattle.std.specs.Prelude.{◌≡◌};
 ghost use Rattle.std.specs.List.{list_all};
 ghost use Rattle.irc_routes.specs.Info.{is_text_byte};
-ghost use Rattle.irc_server.specs.Configuring.{config_fault, has_double, is_among, is_own, is_peer};
+ghost use Rattle.irc_routes.specs.About.{about_of};
+ghost use Rattle.irc_server.specs.Configuring.{
+  config_fault,
+  has_double,
+  is_about,
+  is_among,
+  is_own,
+  is_peer,
+};
 
 use irc_link_words::is_password;
 use irc_names::{MAX_CREATED, MAX_INFO, is_server};
@@ -54,16 +62,22 @@ fn is_text(bytes: &[u8]) -> bool
     bytes.iter().all(|byte| is_text_byte(*byte))
 }
 
-/// Whether a server's own row keeps its limits.
-fn is_own(own: &Own) -> bool
-    ensures { result ≡ is_own own.now }
+/// Whether what a server says of itself keeps its limits.
+fn is_about(own: &Own) -> bool
+    ensures { result ≡ is_about (about_of own.now) }
 {
-    is_server(&own.name)
-        && is_text(&own.info)
+    is_text(&own.info)
         && own.info.len() <= MAX_INFO
         && is_text(&own.created)
         && !own.created.is_empty()
         && own.created.len() <= MAX_CREATED
+}
+
+/// Whether a server's own row keeps its limits.
+fn is_own(own: &Own) -> bool
+    ensures { result ≡ is_own own.now }
+{
+    is_server(&own.name) && is_about(own)
 }
 
 /// Whether a peer keeps its limits.

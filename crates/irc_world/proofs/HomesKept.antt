@@ -10,6 +10,7 @@ use Rattle.irc_users.specs.declared.user.User.{User}
 use Rattle.irc_relay.specs.Links.{Name, Link, same, links_without}
 use Rattle.irc_relay.specs.Lemmas.TellingNames.{Telling, alike, unlike, tell}
 use Rattle.irc_merge.specs.Laws.{MergeHasNothingNew, SplitHasNothingNew}
+use Rattle.irc_routes.specs.About.{says_nothing}
 use Rattle.irc_routes.specs.Place.{alone}
 use Rattle.irc_stage.specs.Handle.{ClientEvent, connects, says, goes, handled}
 use Rattle.irc_world.specs.World.{Setting, Hall, World, new_world, is_server, home_of, joined_place}
@@ -27,22 +28,23 @@ use Rattle.irc_world.proofs.StaysSound.{new_world_is_sound, server_known}
 
 pub named : (settings all : List Setting) (links : List Link) (server : Name)
     → (option_map_or (joined_place all links) (find (λ (s : Setting). same s.name server) settings)
-    (alone server [] [])).name ≡ server
+    (alone server says_nothing)).name ≡ server
 named [] all links server = refl
 named (s ∷ settings) all links server = by (tell s.name server) (named settings all links server)
   where
     by : Telling s.name server → (option_map_or (joined_place all links)
-        (find (λ (t : Setting). same t.name server) settings) (alone server [] [])).name ≡ server
+        (find (λ (t : Setting). same t.name server) settings) (alone server says_nothing)).name
+            ≡ server
         → (option_map_or (joined_place all links)
         (cond (same s.name server) (Some s) (find (λ (t : Setting). same t.name server) settings))
-        (alone server [] [])).name ≡ server
+        (alone server says_nothing)).name ≡ server
     by (alike is one) behind =
         ap (λ b. (option_map_or (joined_place all links) (cond b (Some s) (find
-        (λ (t : Setting). same t.name server) settings)) (alone server [] [])).name) is
+        (λ (t : Setting). same t.name server) settings)) (alone server says_nothing)).name) is
         ∙ one
     by (unlike is _) behind =
         ap (λ b. (option_map_or (joined_place all links) (cond b (Some s) (find
-        (λ (t : Setting). same t.name server) settings)) (alone server [] [])).name) is
+        (λ (t : Setting). same t.name server) settings)) (alone server says_nothing)).name) is
         ∙ behind
 
 module _ (brings : ClientsBringOwnUsers) (merge_new : MergeHasNothingNew)

@@ -13,6 +13,7 @@ use Rattle.irc_relay.specs.Links.{AreJoined, AreLinked, IsForest, IsLeft, IsMade
 use Rattle.irc_relay.specs.Links.{back, still, parted, turned}
 use Rattle.irc_relay.specs.Laws.{JoinedOverLink}
 use Rattle.irc_relay.specs.Lemmas.TellingNames.{Telling, alike, unlike, tell, same_unless}
+use Rattle.irc_routes.specs.About.{says_nothing}
 use Rattle.irc_routes.specs.Place.{alone}
 use Rattle.irc_world.specs.World.{Setting, setting_of, known_from, has_end, joined_place, place_at}
 use Rattle.irc_world.proofs.SameWorlds.{known_at}
@@ -60,8 +61,7 @@ module _ (settings : List Setting) (one other : List Link) where
       → joined_place settings one own ≡ joined_place settings other own
   place_so own so = λ i. record {
     name = own.name;
-    info = own.info;
-    created = own.created;
+    about = own.about;
     links = so.count_same i;
     servers = values (tabulate (map (λ (s : Setting). s.name) settings)
         (fun_ext (λ server. known_so own.name server so) i));
@@ -72,8 +72,8 @@ module _ (settings : List Setting) (one other : List Link) where
   place_known server so = by (setting_of settings server) refl
     where
       by : (o : Option Setting) → setting_of settings server ≡ o
-          → option_map_or (joined_place settings one) o (alone server [] [])
-          ≡ option_map_or (joined_place settings other) o (alone server [] [])
+          → option_map_or (joined_place settings one) o (alone server says_nothing)
+          ≡ option_map_or (joined_place settings other) o (alone server says_nothing)
       by None is = refl
       by (Some own) is = place_so own
           (subst (KnowsTheSame one other) (sym (found_named settings server own is)) so)

@@ -16,6 +16,7 @@ use Rattle.irc_relay.specs.Laws.{TestsTell, LinkBetweenParts, LinkTakenOut}
 use Rattle.irc_relay.specs.TurnedLinks.{AreTurned, AreTheSameLinks, TurnedAreTheSame}
 use Rattle.irc_merge.specs.ShownAlong.{shown_along}
 use Rattle.irc_merge.specs.Split.{split, split_effects}
+use Rattle.irc_routes.specs.About.{says_nothing}
 use Rattle.irc_routes.specs.Place.{KnownServer, alone}
 use Rattle.irc_stage.specs.declared.clients.Client.{Client}
 use Rattle.irc_stage.specs.declared.clients.Client.TheVariants.{Registering, Registered}
@@ -56,7 +57,7 @@ abbrev pub known_at : List Setting → Name → Bool → ℕ → Option KnownSer
 known_at settings server there far =
     if there then option_map (λ (s : Setting). record {
       name = s.name;
-      info = s.info;
+      info = s.about.info;
       distance = far;
     }) (setting_of settings server) else None
 
@@ -81,8 +82,7 @@ module _ (settings : List Setting) (one other : List Link) (are : AreTheSameLink
       → joined_place settings one own ≡ joined_place settings other own
   place_in_same turned own = λ i. record {
     name = own.name;
-    info = own.info;
-    created = own.created;
+    about = own.about;
     links = counted_same own.name one other turned i;
     servers = values
         (tabulate (map (λ (s : Setting). s.name) settings) (fun_ext (known_same own.name) i));
@@ -91,7 +91,7 @@ module _ (settings : List Setting) (one other : List Link) (are : AreTheSameLink
   pub place_same : AreTurned one other → (server : Name)
       → place_at settings one server ≡ place_at settings other server
   place_same turned server =
-      ap (λ place. option_map_or place (setting_of settings server) (alone server [] []))
+      ap (λ place. option_map_or place (setting_of settings server) (alone server says_nothing))
       (fun_ext (place_in_same turned))
 
 pub looks_same : TurnedAreTheSame → (settings : List Setting) (one other : World)

@@ -15,6 +15,7 @@ use Rattle.irc_relay.specs.Links.{Name, Link, part, distance, AreLinked, IsFores
 use Rattle.irc_relay.specs.Links.{linked as are_linked}
 use Rattle.irc_relay.specs.Lemmas.TellingNames.{alike, unlike, tell, same_when}
 use Rattle.irc_room.specs.Room.{Room}
+use Rattle.irc_routes.specs.About.{says_nothing}
 use Rattle.irc_routes.specs.Known.{others, by_name, place_of}
 use Rattle.irc_routes.specs.Laws.{AloneIsAlone}
 use Rattle.irc_routes.specs.Place.{KnownServer, Place, alone}
@@ -55,7 +56,7 @@ one_name setting server known = elim (tell setting.name server) [
 ]
 
 abbrev itself_known : Setting → KnownServer
-itself_known setting = record { name = setting.name; info = setting.info; distance = 0 }
+itself_known setting = record { name = setting.name; info = setting.about.info; distance = 0 }
 
 known_alone : (setting : Setting)
     → known_from (setting ∷ []) [] setting.name setting.name ≡ Some (itself_known setting)
@@ -63,14 +64,14 @@ unfolding distance
 known_alone setting =
     ap (λ b. if b then option_map (λ (s : Setting). record {
       name = s.name;
-      info = s.info;
+      info = s.about.info;
       distance = distance [] setting.name setting.name;
     })
     (setting_of (setting ∷ []) setting.name)
     else None) (same_when (part [] setting.name) (part [] setting.name) refl)
     ∙ ap (option_map (λ (s : Setting). record {
       name = s.name;
-      info = s.info;
+      info = s.about.info;
       distance = distance [] setting.name setting.name;
     })) (found setting)
 
@@ -93,14 +94,13 @@ servers_alone setting =
     ∙ value_alone (itself_known setting)
 
 place_alone : (setting : Setting)
-    → place_at (setting ∷ []) [] setting.name ≡ alone setting.name setting.info setting.created
+    → place_at (setting ∷ []) [] setting.name ≡ alone setting.name setting.about
 place_alone setting =
-    ap (λ o. option_map_or (joined_place (setting ∷ []) []) o (alone setting.name [] []))
+    ap (λ o. option_map_or (joined_place (setting ∷ []) []) o (alone setting.name says_nothing))
     (found setting)
     ∙ ap (λ ss. record {
       name = setting.name;
-      info = setting.info;
-      created = setting.created;
+      about = setting.about;
       links = 0;
       servers = ss;
     }) (servers_alone setting)
@@ -141,7 +141,7 @@ module _ (alone_is : AloneIsAlone) (one_room : LoneServerIsOneRoom) (setting : S
       (world.hall setting.name).clients (world.hall setting.name).room) no_links
       ∙ ap (λ place. machine_with place (world.hall setting.name).clients
       (world.hall setting.name).room)
-      (place_alone setting ∙ sym (alone_is setting.name setting.info setting.created)
+      (place_alone setting ∙ sym (alone_is setting.name setting.about)
       ∙ ap place_of (sym is.routes))
       ∙ ap (λ clients. machine_with (place_of view.routes) clients (world.hall setting.name).room)
       (sym is.clients)
@@ -175,7 +175,7 @@ module _ (alone_is : AloneIsAlone) (one_room : LoneServerIsOneRoom) (setting : S
       same : SaysTheSame view client_event
       same = one_room view client_event (record {
         no_ends = is.no_ends;
-        no_others = ap others is.routes ∙ knows_no_other setting.name setting.info setting.created;
+        no_others = ap others is.routes ∙ knows_no_other setting.name setting.about;
       })
 
       hall : Hall

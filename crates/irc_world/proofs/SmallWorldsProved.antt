@@ -31,6 +31,7 @@ use Rattle.irc_room.specs.Lemmas.ListedRooms.{ListedRoom, ListedChannel, channel
 use Rattle.irc_room.specs.Lemmas.ListedRooms.{no_list, all_listed}
 use Rattle.irc_room.specs.Lemmas.ListedSeen.{user_listed, channel_listed}
 use Rattle.irc_room.specs.Lemmas.ExampleRooms.{list_room}
+use Rattle.irc_routes.specs.About.{About}
 use Rattle.irc_routes.specs.Place.{KnownServer}
 use Rattle.irc_merge.specs.Bursts.{burst, in_lines}
 use Rattle.irc_merge.specs.Lemmas.ListedMerge.{AreInOrder, CanBeListed, list_without, burst_listed}
@@ -53,6 +54,7 @@ use Rattle.irc_world.specs.Networks.{b_to_c, two_apart}
 use Rattle.irc_world.specs.SmallWorlds.{LinesAtMost, four_peers, links_of_pairs, cys_doings}
 use Rattle.irc_world.specs.SmallWorlds.{zeds_topic, bos_z, bos_client, KillsComeFirst}
 use Rattle.irc_world.specs.SmallWorlds.{PasswordsDiffer, told_apart, line_of_links, Whereabouts}
+use Rattle.irc_world.specs.SmallWorlds.{of_first, of_second, of_third}
 use Rattle.irc_world.specs.SmallWorlds.{two_clients, two_doings, other_two_clients}
 use Rattle.irc_world.specs.SmallWorlds.{other_two_doings, ErrorComesLast, als_channel, bos_voice}
 use Rattle.irc_world.specs.SmallWorlds.{OperatorBeforeVoice, four_doings, four_clients, four_lose}
@@ -349,22 +351,22 @@ known_listed known servers rise =
 abbrev names : List Name
 names = a_net ∷ b_net ∷ c_net ∷ []
 
-abbrev place_with : Name → List ℕ → List ℕ → ℕ → List KnownServer → Place
-place_with name info created links servers =
-    record { name = name; info = info; created = created; links = links; servers = servers }
+abbrev place_with : Name → About → ℕ → List KnownServer → Place
+place_with name about links servers =
+    record { name = name; about = about; links = links; servers = servers }
 
 pub whereabouts : Whereabouts
 unfolding part distance links_without
 whereabouts = record {
-  at_a = ap (place_with a_net (codes "First") (codes "Monday") 1)
+  at_a = ap (place_with a_net of_first 1)
       (known_listed (known_from told_apart line_of_links a_net) names tt);
-  at_b = ap (place_with b_net (codes "Second") (codes "Tuesday") 2)
+  at_b = ap (place_with b_net of_second 2)
       (known_listed (known_from told_apart line_of_links b_net) names tt);
-  at_c = ap (place_with c_net (codes "Third") (codes "Wednesday") 1)
+  at_c = ap (place_with c_net of_third 1)
       (known_listed (known_from told_apart line_of_links c_net) names tt);
-  a_is_cut = ap (place_with a_net (codes "First") (codes "Monday") 0)
+  a_is_cut = ap (place_with a_net of_first 0)
       (known_listed (known_from told_apart (b_to_c ∷ []) a_net) names tt);
-  b_is_cut = ap (place_with b_net (codes "Second") (codes "Tuesday") 1)
+  b_is_cut = ap (place_with b_net of_second 1)
       (known_listed (known_from told_apart (b_to_c ∷ []) b_net) names tt);
 }
 

@@ -1,6 +1,7 @@
 -- A small network, by example: who is refused what.
 use Rattle.std.specs.Prelude.{◌≡◌, ℕ, Some, List, [], ◌∷◌, codes}
 use Rattle.irc_relay.specs.Links.{Name}
+use Rattle.irc_routes.specs.About.{says}
 use Rattle.irc_stage.specs.View.{KnownPeer}
 use Rattle.irc_world.specs.World.{Setting, new_world}
 use Rattle.irc_world.specs.Stepping.{connect, line, gone, link, cut}
@@ -9,7 +10,7 @@ use Rattle.irc_world.specs.Refused.{link_refused}
 
 abbrev pub with_peers : Name → List KnownPeer → Setting
 with_peers name peers =
-    record { name = name; info = codes "A server"; created = codes "today"; peers = peers }
+    record { name = name; about = says (codes "A server") (codes "today"); peers = peers }
 
 abbrev pub peer : Name → List ℕ → KnownPeer
 peer name password = record { name = name; password = password }

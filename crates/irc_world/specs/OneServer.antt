@@ -6,6 +6,7 @@ use Rattle.std.specs.FinMap.{empty}
 use Rattle.std.specs.Option.{option_map}
 use Rattle.irc_line.specs.Reading.{read_of}
 use Rattle.irc_room.specs.Laws.{no_room}
+use Rattle.irc_routes.specs.About.{about_of}
 use Rattle.irc_routes.specs.Known.{alone_known}
 use Rattle.irc_stage.specs.RoomMachine.{RoomMachine, client_of}
 use Rattle.irc_server.specs.declared.config.Config.{Config}
@@ -27,7 +28,7 @@ use Rattle.irc_world.specs.Sound.{IsSound, AreTaken}
 -- a server as it is configured: it knows no other, and nobody is there
 abbrev pub lone_view : Setting → View
 lone_view setting = record {
-  routes = alone_known setting.name setting.info setting.created;
+  routes = alone_known setting.name setting.about;
   peers = setting.peers;
   ends = empty;
   clients = empty;
@@ -38,8 +39,7 @@ lone_view setting = record {
 abbrev pub configured : Config → Setting
 configured config = record {
   name = config.own.name.items;
-  info = config.own.info.items;
-  created = config.own.created.items;
+  about = about_of config.own;
   peers = map known_peer config.peers.items;
 }
 
@@ -56,7 +56,7 @@ NewServerIsAlone = (config : Config) (server : Option View) → IsMade config (O
 -- a server is all that a network of one server is to its clients: it knows no other, and has the
 -- clients and the room of its hall
 pub record IsTheServer (setting : Setting) (world : World) (view : View) : Type 0 where
-  pub routes : view.routes ≡ alone_known setting.name setting.info setting.created
+  pub routes : view.routes ≡ alone_known setting.name setting.about
   pub no_ends : view.ends ≡ empty
   pub clients : view.clients ≡ (world.hall setting.name).clients
   pub room : view.room ≡ (world.hall setting.name).room

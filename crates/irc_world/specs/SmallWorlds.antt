@@ -10,6 +10,7 @@ use Rattle.irc_room.specs.effect.Effect.TheVariants.{Join, ChangeModes, SetTopic
 use Rattle.irc_room.specs.Examples.{set}
 use Rattle.irc_room.specs.Readers.{is_invited_at}
 use Rattle.irc_relay.specs.Links.{Link, links_without}
+use Rattle.irc_routes.specs.About.{About, says}
 use Rattle.irc_routes.specs.Place.{KnownServer, Place}
 use Rattle.irc_stage.specs.declared.clients.Client.{Client}
 use Rattle.irc_stage.specs.declared.clients.Client.TheVariants.{Registered}
@@ -145,21 +146,20 @@ pub record PasswordsDiffer : Type 0 where
 -- ---- what each server knows of the network
 
 -- three servers in a line, each with words of its own about itself
+abbrev pub of_first : About
+of_first = says (codes "First") (codes "Monday")
+
+abbrev pub of_second : About
+of_second = says (codes "Second") (codes "Tuesday")
+
+abbrev pub of_third : About
+of_third = says (codes "Third") (codes "Wednesday")
+
 abbrev pub told_apart : List Setting
 told_apart =
-    (record { name = codes "a.net"; info = codes "First"; created = codes "Monday"; peers = [] })
-    ∷ (record {
-      name = codes "b.net";
-      info = codes "Second";
-      created = codes "Tuesday";
-      peers = [];
-    })
-    ∷ (record {
-      name = codes "c.net";
-      info = codes "Third";
-      created = codes "Wednesday";
-      peers = [];
-    })
+    (record { name = codes "a.net"; about = of_first; peers = [] })
+    ∷ (record { name = codes "b.net"; about = of_second; peers = [] })
+    ∷ (record { name = codes "c.net"; about = of_third; peers = [] })
     ∷ []
 
 abbrev pub line_of_links : List Link
@@ -177,8 +177,7 @@ third_at distance = record { name = codes "c.net"; info = codes "Third"; distanc
 abbrev pub firsts_place : ℕ → List KnownServer → Place
 firsts_place links servers = record {
   name = codes "a.net";
-  info = codes "First";
-  created = codes "Monday";
+  about = of_first;
   links = links;
   servers = servers;
 }
@@ -191,16 +190,14 @@ pub record Whereabouts : Type 0 where
   pub at_b : place_at told_apart line_of_links (codes "b.net")
       ≡ record {
         name = codes "b.net";
-        info = codes "Second";
-        created = codes "Tuesday";
+        about = of_second;
         links = 2;
         servers = first_at 1 ∷ second_at 0 ∷ third_at 1 ∷ [];
       }
   pub at_c : place_at told_apart line_of_links (codes "c.net")
       ≡ record {
         name = codes "c.net";
-        info = codes "Third";
-        created = codes "Wednesday";
+        about = of_third;
         links = 1;
         servers = first_at 2 ∷ second_at 1 ∷ third_at 0 ∷ [];
       }
@@ -210,8 +207,7 @@ pub record Whereabouts : Type 0 where
       (codes "b.net")
       ≡ record {
         name = codes "b.net";
-        info = codes "Second";
-        created = codes "Tuesday";
+        about = of_second;
         links = 1;
         servers = second_at 0 ∷ third_at 1 ∷ [];
       }

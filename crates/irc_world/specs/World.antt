@@ -10,6 +10,7 @@ use Rattle.irc_names.specs.Tables.{tabulate}
 use Rattle.irc_relay.specs.Links.{Name, same, Link, joined, distance}
 use Rattle.irc_room.specs.Room.{Room}
 use Rattle.irc_room.specs.Laws.{no_room}
+use Rattle.irc_routes.specs.About.{About, says_nothing}
 use Rattle.irc_routes.specs.Place.{KnownServer, Place, alone}
 use Rattle.irc_stage.specs.View.{KnownPeer}
 use Rattle.irc_stage.specs.RoomMachine.{Clients, RoomMachine}
@@ -17,8 +18,7 @@ use Rattle.irc_stage.specs.RoomMachine.{Clients, RoomMachine}
 -- a server as it is configured
 pub record Setting : Type 0 where
   pub name : Name
-  pub info : List ℕ
-  pub created : List ℕ
+  pub about : About
   pub peers : List KnownPeer
 
 -- what those share who are in one part: the clients, each under its number, and the room
@@ -67,7 +67,11 @@ home_of world client = home_in world.homes client
 abbrev pub known_from : List Setting → List Link → Name → Name → Option KnownServer
 known_from settings links own server =
     if joined links own server then option_map
-    (λ (s : Setting). record { name = s.name; info = s.info; distance = distance links own server })
+    (λ (s : Setting). record {
+      name = s.name;
+      info = s.about.info;
+      distance = distance links own server;
+    })
     (setting_of settings server) else None
 
 -- whether a link is one of this server's
@@ -78,8 +82,7 @@ has_end server link = same link.near server || same link.far server
 abbrev pub joined_place : List Setting → List Link → Setting → Place
 joined_place settings links own = record {
   name = own.name;
-  info = own.info;
-  created = own.created;
+  about = own.about;
   links = count_by (has_end own.name) links;
   servers = values
       (tabulate (map (λ (s : Setting). s.name) settings) (known_from settings links own.name));
@@ -88,7 +91,8 @@ joined_place settings links own = record {
 -- where the clients of a server are; a name that is no server's stands alone
 abbrev pub place_at : List Setting → List Link → Name → Place
 place_at settings links server =
-    option_map_or (joined_place settings links) (setting_of settings server) (alone server [] [])
+    option_map_or (joined_place settings links) (setting_of settings server)
+        (alone server says_nothing)
 
 -- the room machine of a part, as one of its servers' clients meet it
 abbrev pub machine_at : List Setting → World → Name → RoomMachine

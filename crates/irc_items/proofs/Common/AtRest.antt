@@ -135,10 +135,7 @@ module _ (laws : AreRoomLaws) (net : Network) (sound : IsSound net)
   right_now : AreRight (at_rest_of net) net.links (routes_in net)
   right_now = record {
     named = λ t among. ap (λ (k : Known). k.name) (same_routes t among) ∙ right.named t among;
-    described =
-        λ t among. ap (λ (k : Known). k.info) (same_routes t among) ∙ right.described t among;
-    created =
-        λ t among. ap (λ (k : Known). k.created) (same_routes t among) ∙ right.created t among;
+    about = λ t among. ap (λ (k : Known). k.about) (same_routes t among) ∙ right.about t among;
     rows = λ t x among. ap (λ k. option_map shape (row_of k x)) (same_routes t among)
         ∙ right.rows t x among;
     numbered = λ t among. subst IsNumbered (sym (same_routes t among)) (right.numbered t among);

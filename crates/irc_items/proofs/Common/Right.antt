@@ -16,9 +16,10 @@ use Rattle.irc_stage.specs.View.{View}
 use Rattle.irc_stage.specs.RoomMachine.{Clients}
 use Rattle.irc_stage.specs.Lemmas.Counting.{get-kept}
 use Rattle.irc_stage.specs.Lemmas.Numbers.{same_clients}
-use Rattle.irc_follow.specs.AtRest.{created_in, AreRight}
+use Rattle.irc_follow.specs.AtRest.{AreRight}
 use Rattle.irc_follow.specs.Fits.{far_end, Fits}
-use Rattle.irc_follow.specs.SideState.{ItemSetting, SideState, info_in, is_home_of, IsSoundSide}
+use Rattle.irc_follow.specs.SideState.{ItemSetting, SideState, about_in, info_in, is_home_of}
+use Rattle.irc_follow.specs.SideState.{IsSoundSide}
 use Rattle.irc_follow.specs.Tree.{index_in, shape, shape_in}
 use Rattle.irc_follow.specs.Lemmas.NewLink.{kept_row}
 use Rattle.irc_items.proofs.Common.Ends.{OnSide, on_side, on_neither, chosen, chosen_aside}
@@ -29,8 +30,7 @@ use Rattle.irc_items.proofs.Common.Ends.{chosen_at, which_side}
 -- what one server keeps is right
 pub record IsRightAt (s : ItemSetting) (links : List Link) (t : Name) (known : Known) : Type 0 where
   pub named : known.name ≡ t
-  pub described : known.info ≡ info_in s.settings t
-  pub created : known.created ≡ created_in s.settings t
+  pub about : known.about ≡ about_in s.settings t
   pub rows : (x : Name) → option_map shape (row_of known x)
       ≡ (if joined links x t && not (same x t)
       then Some (shape_in s.names (info_in s.settings) links t x) else None)
@@ -45,8 +45,7 @@ pub right_still : {s : ItemSetting} {old links : List Link} {routes : Name → K
     ≡ shape_in s.names (info_in s.settings) links t x) → IsRightAt s links t (routes t)
 right_still {s} {old} {links} {routes} {t} right among joined_so stays = record {
   named = right.named t among;
-  described = right.described t among;
-  created = right.created t among;
+  about = right.about t among;
   rows = λ x. right.rows t x among
       ∙ kept_row (joined old x t) (not (same x t)) (shape_in s.names (info_in s.settings) old t x)
       (shape_in s.names (info_in s.settings) links t x)
@@ -63,8 +62,7 @@ pub right_wherever : {base : ItemSetting} (homes : List Name) (streams : Streams
     → AreRight (record base { homes = homes; streams = streams }) links routes
 right_wherever homes streams right = record {
   named = right.named;
-  described = right.described;
-  created = right.created;
+  about = right.about;
   rows = right.rows;
   numbered = right.numbered;
   low = right.low;
@@ -157,8 +155,7 @@ module _ (s : ItemSetting) (links base : List Link) (l : Link) (of_end : Name �
     pub all_right : AreRight s links now
     all_right = record {
       named = λ t among. (right_at t among).named;
-      described = λ t among. (right_at t among).described;
-      created = λ t among. (right_at t among).created;
+      about = λ t among. (right_at t among).about;
       rows = λ t x among. (right_at t among).rows x;
       numbered = λ t among. (right_at t among).numbered;
       low = λ t x r among. (right_at t among).low x r;

@@ -17,7 +17,7 @@ use Rattle.irc_relay.specs.Following.{all_done, all_seen}
 use Rattle.irc_relay.specs.Links.{Name, same, Link, joined}
 use Rattle.irc_relay.specs.Lemmas.TellingNames.{same_unless, same_when}
 use Rattle.irc_room.specs.Room.{Room, IsWellFormed}
-use Rattle.irc_routes.specs.Known.{Known, without_server}
+use Rattle.irc_routes.specs.Known.{without_server}
 use Rattle.irc_stage.specs.declared.clients.Client.{Client}
 use Rattle.irc_stage.specs.declared.clients.Client.TheVariants.{Registering, Registered}
 use Rattle.irc_stage.specs.Lemmas.Counting.{get-kept}
@@ -32,19 +32,15 @@ use Rattle.irc_items.proofs.Cut.Names.{servers_distinct}
 
 -- ---- one loss
 
--- a server is configured as it was
-pub record IsConfigured (old new : Known) : Type 0 where
-  pub info : new.info ≡ old.info
-  pub created : new.created ≡ old.created
-
-lost_configured : (tree : Tree) (name : List ℕ) (t : Name)
-    → IsConfigured (tree.routes t) (lost_at tree name t)
-lost_configured tree name t = by (tree.here t)
+-- a server says of itself what it said
+lost_says : (tree : Tree) (name : List ℕ) (t : Name)
+    → (lost_at tree name t).about ≡ (tree.routes t).about
+lost_says tree name t = by (tree.here t)
   where
-    by : (b : Bool) → IsConfigured (tree.routes t) (if b then without_server name (tree.routes t)
-        else tree.routes t)
-    by true = record { info = refl; created = refl }
-    by false = record { info = refl; created = refl }
+    by : (b : Bool) → (if b then without_server name (tree.routes t)
+        else tree.routes t).about ≡ (tree.routes t).about
+    by true = refl
+    by false = refl
 
 -- a client of one server is none of another
 another_home : (homes : List Name) (name t : Name) (q : ℕ) → same t name ≡ false
@@ -79,7 +75,7 @@ pub record HasLost (s : ItemSetting) (own far : Name) (names : List Name)
   pub here : after.tree.here ≡ before.tree.here
   pub knows : (x : Name)
       → after.tree.knows x ≡ (before.tree.knows x && not (list_any (same x) names))
-  pub configured : (t : Name) → IsConfigured (before.tree.routes t) (after.tree.routes t)
+  pub says : (t : Name) → (after.tree.routes t).about ≡ (before.tree.routes t).about
   pub room : after.hall.room ≡ after_deeds before.hall.room (losses own far names)
   pub clients : (t : Name) (q : ℕ) → list_any (same t) names ≡ false → is_home_of s.homes t q ≡ true
       → get after.hall.clients q ≡ get before.hall.clients q
@@ -132,7 +128,7 @@ module _ (s : ItemSetting) (client : ℕ) (own far : Name) where
     forest = refl;
     here = refl;
     knows = λ x. sym (and-true (w.tree.knows x));
-    configured = λ t. record { info = refl; created = refl };
+    says = λ t. refl;
     room = refl;
     clients = λ t q two home. refl;
   }
@@ -143,12 +139,7 @@ module _ (s : ItemSetting) (client : ℕ) (own far : Name) where
         here = rest.here;
         knows = λ x. rest.knows x
             ∙ and_neither (w.tree.knows x) (same x name) (list_any (same x) names);
-        configured = λ t.
-            let first = lost_configured w.tree name t in
-            record {
-              info = (rest.configured t).info ∙ first.info;
-              created = (rest.configured t).created ∙ first.created;
-            };
+        says = λ t. rest.says t ∙ lost_says w.tree name t;
         room = rest.room;
         clients = λ t q two home.
             let parts = or_parts (same t name) (list_any (same t) names) two in

@@ -161,8 +161,7 @@ module _ (known : IsKnownOfCuts) {s : ItemSetting} {world : World} {routes : Nam
         → IsRightAt s left t (routes_now t)
     side_right t among here = record {
       named = so.sound.tree.named t among;
-      described = (lost_side.configured t).info ∙ so.right.described t among;
-      created = (lost_side.configured t).created ∙ so.right.created t among;
+      about = lost_side.says t ∙ so.right.about t among;
       rows = λ x. side_tree.rows t x (joined_test left t a here)
           ∙ ap (λ c. if c && not (same x t) then Some (shape_in s.names
           (info_in s.settings) left t x) else None) (sym (joined_alike left x t a here));

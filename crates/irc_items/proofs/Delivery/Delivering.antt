@@ -468,7 +468,7 @@ module _ (laws : AreDeliveryLaws) (old new : Progress Network) (sound : IsSound 
             command = codes "SERVER";
             middle = alike_after.name i ∷ codes "1" ∷ codes "1" ∷ [];
             last =
-                Some (alike_after.info i);
+                Some (alike_after.about i).info;
           })
           ∙ sym (ap (λ v. greeting (view_at old.state v).routes) e)
 
@@ -499,7 +499,7 @@ module _ (laws : AreDeliveryLaws) (old new : Progress Network) (sound : IsSound 
       greeted_line l e not_met open_still =
           subst (λ l. is_met_with s (asked_line s p view l).state p ≡ true) (sym e)
           (laws.greeting_met view (number s p) well.end
-          (view_at old.state p).routes well.is_end not_met configured.name configured.info
+          (view_at old.state p).routes well.is_end not_met configured.name configured.about.info
           (subst (λ l. closings (asked_line s p view l).out ≡ []) e open_still))
 
       by : (b : Bool) → has_far well.end ≡ b → is_met_with s after.state p ≡ true

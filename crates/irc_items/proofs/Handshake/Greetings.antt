@@ -46,8 +46,8 @@ pub record IsKnownOfHandshakes : Type 0 where
 
 -- ---- SERVER
 
-greeting_plain : IsKnownOfHandshakes → (known : Known) → IsServer known.name → IsInfo known.info
-    → IsPlain (greeting known)
+greeting_plain : IsKnownOfHandshakes → (known : Known) → IsServer known.name
+    → IsInfo known.about.info → IsPlain (greeting known)
 greeting_plain laws known name info = record {
   prefix_no_space = refl;
   prefix_no_nul = refl;
@@ -56,33 +56,36 @@ greeting_plain laws known name info = record {
     (laws.lines.names.server known.name name).plain,
     (command_plain _ _ refl refl refl, (command_plain _ _ refl refl refl, tt)),
   );
-  last_no_nul = text_no_nul known.info (first_so (list_all is_text_byte known.info) _ info);
+  last_no_nul =
+      text_no_nul known.about.info (first_so (list_all is_text_byte known.about.info) _ info);
   count = lit≤ tt;
 }
 
-pub greeting_is_read : IsKnownOfHandshakes → (known : Known) → IsServer known.name
-    → IsInfo known.info → read_of (line_text (greeting known)) ≡ Ok (message_of (greeting known))
+pub greeting_is_read : IsKnownOfHandshakes → (known : Known)
+    → IsServer known.name → IsInfo known.about.info
+    → read_of (line_text (greeting known)) ≡ Ok (message_of (greeting known))
 greeting_is_read laws known name info =
     sym (laws.lines.alone (line_text (greeting known)) (Ok (message_of (greeting known)))
     (laws.lines.written (greeting known) (greeting_plain laws known name info)
     (laws.names known name info)))
 
 pub greeting_is_line : IsKnownOfHandshakes → (known : Known) → IsServer known.name
-    → IsInfo known.info → IsLine (line_text (greeting known))
+    → IsInfo known.about.info → IsLine (line_text (greeting known))
 greeting_is_line laws known name info = laws.lines.as_line (greeting known) (record {
   sender = refl;
   command = refl;
   command_some = λ e. cc e;
   middle = ((laws.lines.names.server known.name name).carried, (refl, (refl, tt)));
-  last = info_carried known.info info;
+  last = info_carried known.about.info info;
 })
 
-pub greeting_opening : (known : Known) → IsInfo known.info → (has_password : Bool)
+pub greeting_opening : (known : Known) → IsInfo known.about.info → (has_password : Bool)
     → opening_of has_password (message_of (greeting known))
-    ≡ Some (greeting_opens has_password (Some (known.name, known.info)))
+    ≡ Some (greeting_opens has_password (Some (known.name, known.about.info)))
 unfolding opening_of
 greeting_opening known info has_password = ap (λ b.
-    Some (greeting_opens has_password (if b then Some (known.name, known.info) else None))) info
+    Some (greeting_opens has_password (if b then Some (known.name, known.about.info)
+            else None))) info
 
 -- ---- what a server that is not met hears of it
 
@@ -90,14 +93,14 @@ greeting_opening known info has_password = ap (λ b.
 pub data HearsGreeting (view : View) (k : ℕ) (end : End) (known : Known) : Type 0 where
   it_closes : (why : CloseReason) → heard view k end (read_of (line_text (greeting known)))
       ≡ closes why → HearsGreeting view k end known
-  it_meets : heard view k end (read_of (line_text (greeting known))) ≡ meets known.name known.info
-      → HearsGreeting view k end known
+  it_meets : heard view k end (read_of (line_text (greeting known)))
+      ≡ meets known.name known.about.info → HearsGreeting view k end known
 
 module _ (laws : IsKnownOfHandshakes) (view : View) (k : ℕ) (end : End) (known : Known)
     (not_met : is_met end ≡ false) (name : IsServer known.name)
-    (info : IsInfo known.info) where
+    (info : IsInfo known.about.info) where
   pub heard_is : heard view k end (read_of (line_text (greeting known))) ≡ opened view end
-      (greeting_opens (is_some end.password) (Some (known.name, known.info)))
+      (greeting_opens (is_some end.password) (Some (known.name, known.about.info)))
   unfolding heard handshake_meant
   heard_is =
       ap (heard view k end) (greeting_is_read laws known name info)
@@ -116,18 +119,20 @@ module _ (laws : IsKnownOfHandshakes) (view : View) (k : ℕ) (end : End) (known
           (unwrap_or end.password []) view.routes known.name ≡ o
           → heard view k end (read_of (line_text (greeting known))) ≡ met_unless
           (refusal (password_for view known.name)
-          (unwrap_or end.password []) view.routes known.name) known.name known.info
+          (unwrap_or end.password []) view.routes known.name) known.name known.about.info
           → HearsGreeting view k end known
-      met_or None e is = it_meets (is ∙ ap (λ o. met_unless o known.name known.info) e)
-      met_or (Some why) e is = it_closes why (is ∙ ap (λ o. met_unless o known.name known.info) e)
+      met_or None e is = it_meets (is ∙ ap (λ o. met_unless o known.name known.about.info) e)
+      met_or (Some why) e is =
+          it_closes why (is ∙ ap (λ o. met_unless o known.name known.about.info) e)
 
       by : (b : Bool) → is_some end.password ≡ b → HearsGreeting view k end known
       by false e = it_closes reason.Order (heard_is
-          ∙ ap (λ b. opened view end (greeting_opens b (Some (known.name, known.info)))) e)
+          ∙ ap (λ b. opened view end (greeting_opens b (Some (known.name, known.about.info)))) e)
       by true e = met_or (refusal (password_for view known.name)
           (unwrap_or end.password []) view.routes known.name) refl
-          (heard_is ∙ ap (λ b. opened view end (greeting_opens b (Some (known.name, known.info)))) e
-          ∙ ap (λ b. opened view end (if b then Ok (opening.Greeting known.name known.info)
+          (heard_is ∙ ap
+                (λ b. opened view end (greeting_opens b (Some (known.name, known.about.info)))) e
+          ∙ ap (λ b. opened view end (if b then Ok (opening.Greeting known.name known.about.info)
           else Err reason.UnknownPeer)) name)
 
 -- ---- a server that has named itself is met
@@ -135,7 +140,7 @@ module _ (laws : IsKnownOfHandshakes) (view : View) (k : ℕ) (end : End) (known
 -- A server that is not met yet has met the one that names itself, unless it closes the link.
 abbrev pub GreetingIsMet : Type 0
 GreetingIsMet = (view : View) (k : ℕ) (end : End) (known : Known) → get view.ends k ≡ Some end
-    → is_met end ≡ false → IsServer known.name → IsInfo known.info
+    → is_met end ≡ false → IsServer known.name → IsInfo known.about.info
     → closings (served view (link_says k (read_of (line_text (greeting known))))).out ≡ []
     → option_map_or is_met (get (served view
     (link_says k (read_of (line_text (greeting known))))).state.ends k) false ≡ true
@@ -207,5 +212,5 @@ greeting_is_met laws view k end known is not_met name info open_still =
     by (it_closes why e) = absurd (closing_shows k why view
         (sym (ap (λ (s : Served). closings s.out) (served_is (closes why) e)) ∙ open_still))
     by (it_meets e) = ap (λ (s : Served). option_map_or is_met (get s.state.ends k) false)
-        (served_is (meets known.name known.info) e)
-        ∙ meets_is_met view k known.name known.info end is
+        (served_is (meets known.name known.about.info) e)
+        ∙ meets_is_met view k known.name known.about.info end is

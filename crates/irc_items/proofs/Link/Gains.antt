@@ -29,21 +29,19 @@ use Rattle.irc_items.proofs.Link.Sides.{IsReadDeed}
 
 -- ---- what a server keeps
 
--- it is configured as it was, and each number that it had stands for the same server
+-- it says of itself what it said, and each number that it had stands for the same server
 pub record KeepsKnown (old new : Known) : Type 0 where
-  pub info : new.info ≡ old.info
-  pub created : new.created ≡ old.created
+  pub about : new.about ≡ old.about
   pub tokens : (x : Name) (number : ℕ) → token_out old x ≡ Some number
       → token_out new x ≡ Some number
 
 keeps_itself : (known : Known) → KeepsKnown known known
-keeps_itself known = record { info = refl; created = refl; tokens = λ x number is. is }
+keeps_itself known = record { about = refl; tokens = λ x number is. is }
 
 keeps_on : (one two three : Known) → KeepsKnown one two → KeepsKnown two three
     → KeepsKnown one three
 keeps_on one two three first second = record {
-  info = second.info ∙ first.info;
-  created = second.created ∙ first.created;
+  about = second.about ∙ first.about;
   tokens = λ x number is. second.tokens x number (first.tokens x number is);
 }
 
@@ -91,7 +89,7 @@ module _ (names : List Name) (tree : Tree) (uplink name info : List ℕ) (t : Na
     where
       by : (b c : Bool) → is_known (tree.routes t) name ≡ c → KeepsKnown (tree.routes t)
           (if b && not c then known_told names tree uplink name info t else tree.routes t)
-      by true false unknown = record { info = refl; created = refl; tokens = told_tokens unknown }
+      by true false unknown = record { about = refl; tokens = told_tokens unknown }
       by true true known = keeps_itself (tree.routes t)
       by false c is = keeps_itself (tree.routes t)
 

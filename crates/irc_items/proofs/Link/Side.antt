@@ -133,8 +133,7 @@ module _ (s : ItemSetting) (l : Link) (world : World) (routes : Name → Known) 
             → IsRightAt s (l ∷ world.links) t (routes_now t)
         side_right t there here = record {
           named = side_sound.tree.named t there;
-          described = (keeps_known t).info ∙ right.described t there;
-          created = (keeps_known t).created ∙ right.created t there;
+          about = (keeps_known t).about ∙ right.about t there;
           rows = λ x. side_sound.tree.rows t x (joined_test world.links t a here)
               ∙ ap (λ c. if c && not (same x t) then Some
               (shape_in s.names (info_in s.settings) (l ∷ world.links) t x) else None)

@@ -43,6 +43,7 @@ use Rattle.irc_relay.specs.Lemmas.NextHops.{distance_back, distance_self, linked
 use Rattle.irc_relay.specs.Lemmas.ShortWays.{ways_fit_names}
 use Rattle.irc_relay.specs.Lemmas.LinkTakenOut.{tests_tell}
 use Rattle.irc_room.specs.Invitations.{of_home}
+use Rattle.irc_routes.specs.About.{About}
 use Rattle.irc_routes.specs.Info.{IsInfo}
 use Rattle.irc_routes.specs.Known.{Known, distance_of, is_full, is_itself, is_known, row_of}
 use Rattle.irc_routes.specs.Known.{servers_told, smallest_free, token_in, token_out}
@@ -262,8 +263,8 @@ module _ (known : IsKnownOfSides) {s : ItemSetting} {l : Link} {world : World}
           b_name : (routes b).name ≡ b
           b_name = is.right.named b is.b_among
 
-          b_info : (routes b).info ≡ info b
-          b_info = is.right.described b is.b_among
+          b_info : (routes b).about.info ≡ info b
+          b_info = ap (λ (a : About). a.info) (is.right.about b is.b_among)
 
           not_refused : refusal (password_for view b)
               (unwrap_or end.password []) view.routes b ≡ None
@@ -281,8 +282,9 @@ module _ (known : IsKnownOfSides) {s : ItemSetting} {l : Link} {world : World}
               (subst IsServer (sym b_name) (is.fixed.servers.named b is.b_among))
               (subst IsInfo (sym b_info) (is.fixed.servers.described b is.b_among))
               ∙ ap (λ (o : Option (List ℕ)). opened view end
-              (greeting_opens (is_some o) (Some ((routes b).name, (routes b).info)))) given
-              ∙ ap (λ n. opened view end (greeting_opens true (Some (n, (routes b).info)))) b_name
+              (greeting_opens (is_some o) (Some ((routes b).name, (routes b).about.info)))) given
+              ∙ ap (λ n. opened view end
+                    (greeting_opens true (Some (n, (routes b).about.info)))) b_name
               ∙ ap (λ i. opened view end (greeting_opens true (Some (b, i)))) b_info
               ∙ ap (λ c. opened view end (if c then Ok (opening.Greeting b (info b))
               else Err reason.UnknownPeer)) (is.fixed.servers.named b is.b_among)

@@ -1,12 +1,12 @@
 -- What becomes of a network when one of its servers is asked for something that happens.
 use Rattle.std.proofs.Common.{◌≡◌, ◌≢◌, ℕ, zero, suc, Bool, true, false, Option, Some, None, List}
-use Rattle.std.proofs.Common.{[], ◌++◌, length, refl, sym, ap, subst, ◌∙◌, arith, unwrap_or}
+use Rattle.std.proofs.Common.{[], ◌++◌, length, refl, sym, ap, subst, ◌∙◌, unwrap_or}
 use Rattle.std.proofs.Common.{if◌then◌else◌}
 use Rattle.std.specs.FinMap.{get}
 use Rattle.std.specs.List.{slice_get, AllByRecursion}
 use Rattle.std.specs.Option.{option_and_then, option_map, option_map_or}
 use Rattle.irc_names.specs.Names.{IsServer}
-use Rattle.irc_routes.specs.Info.{IsInfo}
+use Rattle.irc_routes.specs.About.{IsAbout}
 use Rattle.irc_relay.specs.Distances.{IsAmong}
 use Rattle.irc_relay.specs.Links.{Link, Name}
 use Rattle.irc_server.specs.Owed.{lines_to}
@@ -71,15 +71,13 @@ reply_alike kept view read_event = by (serves_read_event view read_event) refl
           peers =
               refl;
           name = refl;
-          info = refl;
-          created = refl;
+          about = refl;
         })
 
 pub setting_alike : (old new : View) → IsSetAlike old new → setting_now new ≡ setting_now old
 setting_alike old new alike i = record {
   name = alike.name i;
-  info = alike.info i;
-  created = alike.created i;
+  about = alike.about i;
   peers = alike.peers i;
 }
 
@@ -136,9 +134,7 @@ module _ (kept : ServedKeepsItsSetting) (old : Progress Network) (set_up : IsSet
       let was = set_up.configured t among in
       let same = reply_alike kept view read_event in record {
         name = subst IsServer (sym same.name) was.name;
-        info = subst IsInfo (sym same.info) was.info;
-        created = let e = ap (λ (c : List ℕ). length c) same.created in let few = was.created in
-            omega arith;
+        about = subst IsAbout (sym same.about) was.about;
         passwords = subst (AllByRecursion HasPassword) (sym same.peers) was.passwords;
       }
 

@@ -16,6 +16,7 @@ use Rattle.irc_relay.specs.Links.{Name, same}
 use Rattle.irc_relay.specs.Lemmas.TellingNames.{Telling, alike, unlike, tell, same_unless}
 use Rattle.irc_relay.specs.Lemmas.TellingNames.{same_when}
 use Rattle.irc_relay.specs.Relay.{Streams}
+use Rattle.irc_routes.specs.About.{About, says_nothing}
 use Rattle.irc_routes.specs.Info.{IsInfo}
 use Rattle.irc_stage.specs.View.{View}
 use Rattle.irc_names.specs.Names.{IsServer}
@@ -368,9 +369,10 @@ fixed net set_up streams = record {
   servers = record {
     named = λ x among. servers_named net set_up x (listed net set_up x ∙ among);
     described = λ x among.
-        subst (λ info. IsInfo info) (sym (ap (λ o. option_map_or (λ (own : Setting). own.info) o [])
+        subst (λ (about : About). IsInfo about.info)
+        (sym (ap (λ o. option_map_or (λ (own : Setting). own.about) o says_nothing)
         (setting_there net set_up x among)))
-        (set_up.configured x among).info;
+        (set_up.configured x among).about.info;
   };
   few = set_up.few;
   listed = listed net set_up;

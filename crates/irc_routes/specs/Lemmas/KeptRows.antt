@@ -1,6 +1,6 @@
 -- What the code's rows keep, and what they are seen as, after each change.
-use Rattle.std.proofs.Common.{◌≡◌, ℕ, ◌≤◌, suc, zero, not, ◌&&◌, List, [], ◌∷◌, map, filter, take}
-use Rattle.std.proofs.Common.{drop, length, refl, sym, ◌∙◌, ap, subst, Some, None, Result, Ok, Err}
+use Rattle.std.proofs.Common.{◌≡◌, ℕ, suc, zero, not, ◌&&◌, List, [], ◌∷◌, map, filter, take}
+use Rattle.std.proofs.Common.{drop, refl, sym, ◌∙◌, ap, subst, Some, None, Result, Ok, Err}
 use Rattle.std.proofs.Common.{arith}
 use Rattle.std.proofs.lemmas.List.{length-map}
 use Rattle.std.specs.Prelude.{OnOk, OnErr}
@@ -8,12 +8,12 @@ use Rattle.std.specs.List.{list_all, insert}
 use Rattle.std.specs.Ordering.{is_lt}
 use Rattle.std.specs.FinMap.{values, is_sorted}
 use Rattle.std.specs.FinMap.Entries.{below_all}
-use Rattle.irc_names.specs.Limits.{max_created}
 use Rattle.irc_names.specs.Names.{IsServer}
 use Rattle.irc_names.specs.Tables.{alter, fold_cmp}
 use Rattle.irc_tables.specs.FoldedRows.{table_of, IsInFoldedOrder, BelongsAt, is_before, is_after}
 use Rattle.irc_tables.specs.Lemmas.RowsAsTable.{nothing-sorted, nothing-table, added-sorted}
 use Rattle.irc_tables.specs.Lemmas.RowsAsTable.{added-table}
+use Rattle.irc_routes.specs.About.{About, IsAbout}
 use Rattle.irc_routes.specs.Adding.{added_fault}
 use Rattle.irc_routes.specs.Info.{IsInfo}
 use Rattle.irc_routes.specs.Place.{KnownServer}
@@ -44,24 +44,23 @@ abbrev pub new_row : Known → ℕ → List ℕ → List ℕ → ℕ → ℕ →
 new_row known link uplink name distance token info =
     made_row link uplink name distance token (smallest_free known) info
 
-pub alone_is : (name info created : List ℕ) (rows : List ServerRow) → rows ≡ []
-    → known_by name info created rows ≡ alone_known name info created
-alone_is name info created rows none = ap (λ t.
-    record { name = name; info = info; created = created; rows = t }) (ap (table_of entry) none
-    ∙ nothing-table entry)
+pub alone_is : (name : List ℕ) (about : About) (rows : List ServerRow) → rows ≡ []
+    → known_by name about rows ≡ alone_known name about
+alone_is name about rows none = ap (λ t. record { name = name; about = about; rows = t })
+    (ap (table_of entry) none ∙ nothing-table entry)
 
-pub alone_kept : (name info created : List ℕ) (rows : List ServerRow) → rows ≡ [] → IsServer name
-    → IsInfo info → length created ≤ max_created → IsKept name info created rows
-alone_kept name info created rows none rule limits fits = record {
+pub alone_kept : (name : List ℕ) (about : About) (rows : List ServerRow) → rows ≡ []
+    → IsServer name → IsAbout about → IsKept name about rows
+alone_kept name about rows none rule limits = record {
   ordered = subst (λ rs. IsInFoldedOrder entry rs) (sym none) (nothing-sorted entry);
-  numbered = subst IsNumbered (sym (alone_is name info created rows none))
-      (numbered_alone name info created rule limits fits);
+  numbered = subst IsNumbered (sym (alone_is name about rows none))
+      (numbered_alone name about rule limits);
 }
 
-module _ (name info created : List ℕ) (rows : List ServerRow)
-    (kept : IsKept name info created rows) where
+module _ (name : List ℕ) (about : About) (rows : List ServerRow)
+    (kept : IsKept name about rows) where
   abbrev before : Known
-  before = known_by name info created rows
+  before = known_by name about rows
 
   -- the servers that are known are the rows
   pub others_are : others before ≡ rows
@@ -71,14 +70,14 @@ module _ (name info created : List ℕ) (rows : List ServerRow)
 
   module _ (link : ℕ) (left : List ServerRow)
       (is : left ≡ filter (λ r. not (is_behind link r)) rows) where
-    pub lost_is : known_by name info created left ≡ without_link link before
+    pub lost_is : known_by name about left ≡ without_link link before
     lost_is =
-        ap (known_by name info created) is
+        ap (known_by name about) is
         ∙ ap (λ t. record before { rows = t })
         (filtered-table entry (λ r. not (is_behind link r)) (unless_behind link)
         (stays_elsewhere link) rows kept.ordered)
 
-    pub lost_kept : IsKept name info created left
+    pub lost_kept : IsKept name about left
     lost_kept = record {
       ordered = subst (λ rs. IsInFoldedOrder entry rs) (sym is)
           (filtered-sorted entry (λ r. not (is_behind link r)) (unless_behind link)
@@ -91,10 +90,10 @@ module _ (name info created : List ℕ) (rows : List ServerRow)
   module _ (gone : List ℕ) (left : List ServerRow)
       (is : table_of entry left ≡ alter gone (λ _. None) (table_of entry rows))
       (ordered : IsInFoldedOrder entry left) where
-    pub forgotten_is : known_by name info created left ≡ without_server gone before
+    pub forgotten_is : known_by name about left ≡ without_server gone before
     forgotten_is = ap (λ t. record before { rows = t }) is
 
-    pub forgotten_kept : IsKept name info created left
+    pub forgotten_kept : IsKept name about left
     forgotten_kept = record {
       ordered = ordered;
       numbered = subst IsNumbered (sym forgotten_is)
@@ -177,12 +176,12 @@ module _ (name info created : List ℕ) (rows : List ServerRow)
       (made : row ≡ new_row before link uplink new distance token text)
       (more : List ServerRow)
       (is : table_of entry more ≡ alter row.name (λ _. Some row) (table_of entry rows)) where
-    pub added_is : known_by name info created more
+    pub added_is : known_by name about more
         ≡ added link uplink new distance token text before
     added_is = ap (λ t. record before { rows = t })
         (is ∙ ap (λ (r : ServerRow). alter r.name (λ _. Some r) (table_of entry rows)) made)
 
-    pub added_kept : IsInFoldedOrder entry more → IsKept name info created more
+    pub added_kept : IsInFoldedOrder entry more → IsKept name about more
     added_kept ordered = record {
       ordered = ordered;
       numbered = subst IsNumbered (sym added_is) (numbered_added before link uplink new distance

@@ -10,10 +10,10 @@ use Rattle.std.specs.FinMap.{len-remove}
 use Rattle.std.specs.List.{find, list_any}
 use Rattle.std.specs.Option.{option_map, option_and_then}
 use Rattle.std.proofs.lemmas.Option.{same_Some}
-use Rattle.irc_names.specs.Limits.{max_created}
 use Rattle.irc_names.specs.Names.{is_server, IsServer}
 use Rattle.irc_names.specs.Tables.{Table, row, alter, each, fold_cmp}
 use Rattle.irc_names.specs.TableLaws.{same_fold, one_fold, row-alter, row-each}
+use Rattle.irc_routes.specs.About.{About, IsAbout}
 use Rattle.irc_routes.specs.Adding.{added_fault}
 use Rattle.irc_routes.specs.declared.fault.RoutesFault.TheVariants as fault
 use Rattle.irc_routes.specs.Info.{IsInfo}
@@ -29,12 +29,11 @@ use Rattle.irc_routes.specs.Lemmas.TableRows.{length-values, row_passes, length_
 no_row : (q : List ℕ) (r : ServerRow) → row empty q ≡ Some r → ⊥
 no_row q r there = let clash = sym (get-empty fold_cmp q) ∙ there in cc clash
 
-pub numbered_alone : (name info created : List ℕ) → IsServer name → IsInfo info
-    → length created ≤ max_created → IsNumbered (alone_known name info created)
-numbered_alone name info created rule limits fits = record {
+pub numbered_alone : (name : List ℕ) (about : About) → IsServer name → IsAbout about
+    → IsNumbered (alone_known name about)
+numbered_alone name about rule limits = record {
   name = rule;
-  info = limits;
-  created = fits;
+  about = limits;
   rows = λ q r there. absurd (no_row q r there);
   not_itself = get-empty fold_cmp name;
   few = let none = length-values {X = ServerRow} empty ∙ len-empty fold_cmp ServerRow in
@@ -56,8 +55,7 @@ pub numbered_fewer : (known : Known) (table : Table ServerRow) → IsNumbered kn
     → length (values table) ≤ length (others known) → IsNumbered (record known { rows = table })
 numbered_fewer known table numbered stays fewer = record {
   name = numbered.name;
-  info = numbered.info;
-  created = numbered.created;
+  about = numbered.about;
   rows = λ q r there. numbered.rows q r (stays q r there);
   not_itself =
       not_there table known.name (row table known.name) refl
@@ -236,8 +234,7 @@ module _ (known : Known) (link : ℕ) (uplink name : List ℕ) (distance token :
   pub numbered_added : IsNumbered (added link uplink name distance token info known)
   numbered_added = record {
     name = numbered.name;
-    info = numbered.info;
-    created = numbered.created;
+    about = numbered.about;
     rows = λ q r. after_put known.rows name new_row IsRow (record {
       named = refl;
       rule = admits.rule;

@@ -20,6 +20,7 @@ use Rattle.irc_names.specs.TableLaws.{same_fold, one_fold, same_fold-refl, row-e
 use Rattle.irc_tables.specs.FoldedRows.{table_of, IsInFoldedOrder}
 use Rattle.irc_tables.specs.Lemmas.OrderedEntries.{find-there, sorted-below}
 use Rattle.irc_tables.specs.Lemmas.RowsAsTable.{row-table_of, nothing-table, nothing-sorted}
+use Rattle.irc_routes.specs.About.{About}
 use Rattle.irc_routes.specs.Known.{Known, ServerRow, others, is_itself, row_of, next_hop, is_behind}
 use Rattle.irc_routes.specs.Known.{names_behind, links_in, smallest_free, added, unless_behind}
 use Rattle.irc_routes.specs.Known.{known_server, itself, by_name, server_table, place_of}
@@ -294,27 +295,24 @@ itself_alone : (s : KnownServer) → values (table_of by_name (s ∷ [])) ≡ s 
 unfolding IsInFoldedOrder
 itself_alone s = values-table_of (λ (s : KnownServer). s.name) (s ∷ []) refl
 
-abbrev place_with : List ℕ → List ℕ → List ℕ → List ServerRow → Place
-place_with name info created rows = record {
+abbrev place_with : List ℕ → About → List ServerRow → Place
+place_with name about rows = record {
   name = name;
-  info = info;
-  created = created;
+  about = about;
   links = length (links_in rows);
   servers = values (table_of by_name
-      (record { name = name; info = info; distance = 0 } ∷ map known_server rows));
+      (record { name = name; info = about.info; distance = 0 } ∷ map known_server rows));
 }
 
 pub alone_is_alone : AloneIsAlone
-alone_is_alone name info created =
-    ap (place_with name info created) no_rows
+alone_is_alone name about =
+    ap (place_with name about) no_rows
     ∙ ap (λ n. record {
       name = name;
-      info = info;
-      created = created;
+      about = about;
       links = n;
       servers = values (table_of by_name
-          (record { name = name; info = info; distance = 0 } ∷ []));
+          (record { name = name; info = about.info; distance = 0 } ∷ []));
     }) no_links
-    ∙ ap (λ ss. record { name = name; info = info; created = created; links = 0; servers = ss })
-    (itself_alone
-    (record { name = name; info = info; distance = 0 }))
+    ∙ ap (λ ss. record { name = name; about = about; links = 0; servers = ss })
+    (itself_alone (record { name = name; info = about.info; distance = 0 }))

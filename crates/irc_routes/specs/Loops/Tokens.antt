@@ -3,6 +3,7 @@ use Rattle.std.specs.Prelude.{◌≡◌, ℕ, Bool, not, Option, Some, None, Lis
 use Rattle.std.specs.Option.{option_map}
 use Rattle.irc_names.specs.Tables.{row, alter}
 use Rattle.irc_tables.specs.FoldedRows.{table_of, IsInFoldedOrder}
+use Rattle.irc_routes.specs.About.{About}
 use Rattle.irc_routes.specs.Known.{Known, ServerRow, token_in}
 use Rattle.irc_routes.specs.Loops.Rows.{known_by, IsKept}
 -- the link, the number that the neighbour on it has for a server, and the server's name
@@ -51,7 +52,7 @@ pub record AreTold (known : Known) (tokens : List TokenRow) : Type 0 where
   pub told : (link token : ℕ) → server_at tokens link token ≡ token_in known link token
 
 -- what the code's fields always keep
-pub record IsTied (name info created : List ℕ) (rows : List ServerRow)
+pub record IsTied (name : List ℕ) (about : About) (rows : List ServerRow)
     (tokens : List TokenRow) : Type 0 where
-  pub kept : IsKept name info created rows
-  pub told : AreTold (known_by name info created rows) tokens
+  pub kept : IsKept name about rows
+  pub told : AreTold (known_by name about rows) tokens

@@ -1,5 +1,5 @@
 -- The configurations of a script's servers, as the code has them.
-use Rattle.std.specs.Prelude.{◌≡◌, List, ◌++◌, codes, map, option_to_list, Vec}
+use Rattle.std.specs.Prelude.{◌≡◌, List, ◌++◌, map, option_to_list, Vec}
 use Rattle.std.specs.List.{AllByRecursion}
 use Rattle.std.specs.declared.alloc.Global.{Global}
 use Rattle.irc_net.specs.Making.{config_name}
@@ -7,13 +7,13 @@ use Rattle.irc_relay.specs.Links.{Name}
 use Rattle.irc_net.specs.config.Config.{Config}
 use Rattle.irc_net.specs.peer.Peer.{Peer}
 use Rattle.irc_net.specs.View.{known_peer}
-use Rattle.irc_script.specs.Networks.{peer_of, peers_for}
+use Rattle.irc_routes.specs.About.{about_of}
+use Rattle.irc_script.specs.Networks.{peer_of, peers_for, script_about}
 
 -- a configuration is that of one of these servers
 pub record IsConfigured (names : List Name) (server : Name) (config : Config) : Type 0 where
   pub name : config.own.name.items ≡ server
-  pub info : config.own.info.items ≡ codes "Test server"
-  pub created : config.own.created.items ≡ codes "2024-01-01"
+  pub about : about_of config.own ≡ script_about
   pub peers : map known_peer config.peers.items ≡ peers_for server names
 
 -- a server is among the peers of another one, behind those that were, if the two are not the same

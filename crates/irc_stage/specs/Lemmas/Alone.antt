@@ -24,6 +24,7 @@ use Rattle.irc_room.specs.After.{after}
 use Rattle.irc_room.specs.Readers.{home_under}
 use Rattle.irc_room.specs.Seen.{seen}
 use Rattle.irc_routes.specs.declared.server_row.ServerRow.{ServerRow}
+use Rattle.irc_routes.specs.About.{About}
 use Rattle.irc_routes.specs.Known.{Known, alone_known, link_key, next_hop, others, place_of}
 use Rattle.irc_routes.specs.Lemmas.TableRows.{row_passes, values-table_of}
 use Rattle.irc_routes.specs.Place.{Place}
@@ -80,8 +81,8 @@ none_elsewhere view nowhere (Invite who nick channel) = by (home_under view.room
 none_elsewhere view nowhere other = refl
 
 -- a server that was not linked yet knows no other
-pub knows_no_other : (name info created : List ℕ) → others (alone_known name info created) ≡ []
-knows_no_other name info created =
+pub knows_no_other : (name : List ℕ) (about : About) → others (alone_known name about) ≡ []
+knows_no_other name about =
     ap values (sym (nothing-table (λ (r : ServerRow). (r.name, r))))
     ∙ values-table_of (λ (r : ServerRow). r.name) []
     (nothing-sorted (λ (r : ServerRow). (r.name, r)))

@@ -1,4 +1,5 @@
 use Rattle.std.proofs.Common.{ap, ◌∙◌}
+use Rattle.irc_routes.specs.About.{about_of}
 use Rattle.irc_routes.specs.Known.{others}
 use Rattle.irc_stage.specs.Lemmas.Alone.{knows_no_other}
 use Rattle.irc_server.proofs.server.Server.new.Goals as goal
@@ -6,5 +7,5 @@ use Rattle.irc_server.proofs.server.Server.new.Goals as goal
 pub new-requires : goal.new-requires
 new-requires c = record {
   alone = ap others c.new-routes.ensures ∙ knows_no_other c.args.config.own.name.items
-      c.args.config.own.info.items c.args.config.own.created.items;
+      (about_of c.args.config.own);
 }
