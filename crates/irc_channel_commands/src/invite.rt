@@ -5,10 +5,9 @@ ghost use Rattle.irc_acts.specs.Refusing.{first_refusal};
 ghost use Rattle.irc_acts.specs.Steps.{by_room, Yields};
 ghost use Rattle.irc_channel_commands.specs.Invite.{invite_refusals, invite_steps, invites};
 ghost use Rattle.irc_channel_commands.specs.Invite.{invites_found, invites_there};
-ghost use Rattle.irc_channel_commands.specs.Laws.InviteDoes.{InviteDoes, InviteIsPossible};
-ghost use Rattle.irc_channel_commands.specs.Laws.InviteDoes.{InviteLooksAtNoInvitation};
-ghost use Rattle.irc_channel_commands.specs.Laws.InviteSendable.{InviteIsSendable};
-ghost use Rattle.irc_channel_commands.specs.Laws.InviteLaw.{InviteIsOwn};
+ghost use Rattle.irc_channel_commands.specs.Laws.InviteLaw.{InviteDoes, InviteIsOwn};
+ghost use Rattle.irc_channel_commands.specs.Laws.InviteLaw.{InviteIsPossible, InviteIsSendable};
+ghost use Rattle.irc_channel_commands.specs.Laws.InviteLaw.{InviteLooksAtNoInvitation};
 
 use irc_acts::refusals::no_such_channel;
 use irc_acts::standing::is_operator;

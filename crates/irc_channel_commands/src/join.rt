@@ -8,8 +8,9 @@ ghost use Rattle.irc_acts.specs.Steps.{by_room, AddsTo, Yields};
 ghost use Rattle.irc_acts.specs.Moves.{AreOwnJoins, own_channels};
 ghost use Rattle.irc_channel_commands.specs.Join.{is_zero, join_list, join_steps, joiner_topic};
 ghost use Rattle.irc_channel_commands.specs.Join.{leave_each, leaves};
-ghost use Rattle.irc_channel_commands.specs.Laws.JoinLaw.{JoinIsOwnOrLeaves, LeavingAllIsOwn};
-ghost use Rattle.irc_channel_commands.specs.Laws.JoinDoes.{JoinDoes, JoinLooksAtOwnInvitations};
+ghost use Rattle.irc_channel_commands.specs.Laws.JoinLaw.{JoinDoes, JoinIsOwnOrLeaves};
+ghost use Rattle.irc_channel_commands.specs.Laws.JoinLaw.{JoinLooksAtOwnInvitations};
+ghost use Rattle.irc_channel_commands.specs.Laws.JoinLaw.{LeavingAllIsOwn};
 ghost use Rattle.irc_channel_commands.specs.Loops.JoinList.{is_in_ahead, Enters, IsNextKey};
 ghost use Rattle.irc_channel_commands.specs.Loops.JoinList.{JoinsFound, JoinsOne, JoinsThere};
 

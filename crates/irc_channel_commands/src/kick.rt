@@ -6,10 +6,8 @@ ghost use Rattle.irc_acts.specs.Moves.{AreLeaves};
 ghost use Rattle.irc_acts.specs.Refusing.{first_refusal};
 ghost use Rattle.irc_acts.specs.Steps.{by_room, Yields};
 ghost use Rattle.irc_channel_commands.specs.Kick.{kick_lists, kick_refusals, kick_steps, kicking};
-ghost use Rattle.irc_channel_commands.specs.Laws.KickDoes.{KickDoes, KickIsPossible};
-ghost use Rattle.irc_channel_commands.specs.Laws.KickDoes.{KickLooksAtNoInvitation};
-ghost use Rattle.irc_channel_commands.specs.Laws.KickSendable.{KickIsSendable};
-ghost use Rattle.irc_channel_commands.specs.Laws.KickLaw.{KickIsOwn};
+ghost use Rattle.irc_channel_commands.specs.Laws.KickLaw.{KickDoes, KickIsOwn, KickIsPossible};
+ghost use Rattle.irc_channel_commands.specs.Laws.KickLaw.{KickIsSendable, KickLooksAtNoInvitation};
 ghost use Rattle.irc_channel_commands.specs.Loops.KickList.{kick_list, member_ahead, IsKick};
 ghost use Rattle.irc_channel_commands.specs.Loops.KickList.{IsKickAhead, IsNextKick};
 

@@ -3,8 +3,7 @@ ghost use Rattle.irc_line.specs.PartViews.{words_now};
 ghost use Rattle.irc_acts.specs.Steps.{by_room, Yields};
 ghost use Rattle.irc_channel_commands.specs.Laws.ChangesLaw.{ModeDoesSomething};
 ghost use Rattle.irc_channel_commands.specs.Laws.InvitationsLaw.{ModeLooksAtNoInvitations};
-ghost use Rattle.irc_channel_commands.specs.Laws.ModeLaw.{ModeIsOwn};
-ghost use Rattle.irc_channel_commands.specs.Laws.ModeSendable.{ModeIsSendable};
+ghost use Rattle.irc_channel_commands.specs.Laws.ModeLaw.{ModeIsOwn, ModeIsSendable};
 ghost use Rattle.irc_channel_commands.specs.Mode.{mode_steps};
 
 use crate::{channel_mode, user_mode};

@@ -3,8 +3,8 @@ ghost use Rattle.irc_line.specs.PartViews.{words_now};
 ghost use Rattle.irc_acts.specs.Moves.{AreLeaves};
 ghost use Rattle.irc_acts.specs.Steps.{by_room, Yields};
 ghost use Rattle.irc_channel_commands.specs.Part.{part_list, part_steps};
-ghost use Rattle.irc_channel_commands.specs.Laws.PartLaw.{PartIsOwn};
-ghost use Rattle.irc_channel_commands.specs.Laws.PartDoes.{PartDoes, PartLooksAtNoInvitation};
+ghost use Rattle.irc_channel_commands.specs.Laws.PartLaw.{PartDoes, PartIsOwn};
+ghost use Rattle.irc_channel_commands.specs.Laws.PartLaw.{PartLooksAtNoInvitation};
 ghost use Rattle.irc_channel_commands.specs.Loops.PartList.{IsPartAhead};
 
 use irc_acts::ahead::{self, know_well_formed};

@@ -15,7 +15,7 @@ use Rattle.irc_acts.specs.Own.{IsOwn, to_user, to_channel, makes, enters, parts,
 use Rattle.irc_acts.specs.Own.{invites, changes_modes, changes_itself}
 use Rattle.irc_channel_commands.specs.Join.{leaves}
 use Rattle.irc_commands.specs.Doers.{IsDoneBy, DecidedByItself}
-use Rattle.irc_commands.proofs.TableCases.{decided_so}
+use Rattle.irc_commands.proofs.CommandTable.{decided_so}
 
 own_is_done : (me : User) (room : Room) (effect : Effect) → IsOwn me room effect
     → IsDoneBy me effect
