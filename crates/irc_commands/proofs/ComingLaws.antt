@@ -93,7 +93,8 @@ unregistered_changes_nothing room place pending message =
       answered = λ pending given reply unregistered. refl;
       told = λ pending given line unregistered. refl;
       closed = λ pending given line unregistered. refl;
-      added = λ pending given nickname username is named free unregistered. absurd (true≢false unregistered);
+      added = λ pending given nickname username is named free unregistered.
+          absurd (true≢false unregistered);
     })
 
 pub registered_stays : RegisteredStays

@@ -44,7 +44,7 @@ pub record IsSoDecided (room : Room) (who : List ℕ) (params : List (List ℕ))
 -- What a row does is one of these cases, so each of its effects is possible, does something and is
 -- its user's own doing, and what it carries can be sent; and it is the same whoever else is
 -- invited, so at the user's home what it is in the whole room.
-pub record IsLawfulRow (params : List (List ℕ)) (served : User → Room → Decided) : Type 0 where
+pub record IsLawfulRow (params : List (List ℕ)) (served : User → Room → Decided) : Type 1 where
   pub cases : (me : User) (room : Room) (who : List ℕ) (Q : Decided → Type 0)
       → IsSoDecided room who params Q → row room.users (key who) ≡ Some me → Q (served me room)
   pub alike : (me : User) (room other : Room) → AreAlikeFor me.nick room other
@@ -93,8 +93,10 @@ asks params {steps} only = lawful 0 params (record {
 -- of one that says the same in every room
 pub says : (params : List (List ℕ)) (steps : List Act) → effects_among steps ≡ []
     → IsLawfulRow params (λ me room. does steps)
-says params steps none = asks params {λ me room. steps}
-    (record { answers = λ me room. none; alike = λ me room other alike. refl })
+says params steps none =
+    let only : OnlyAsks (λ me room. steps) =
+    record { answers = λ me room. none; alike = λ me room other alike. refl } in
+    asks params only
 
 pub either : (params : List (List ℕ)) (test : Bool) {one other : User → Room → Decided}
     → IsLawfulRow params one → IsLawfulRow params other

@@ -1,6 +1,5 @@
 pub mod SmallRooms
 pub mod NamedCommands
-pub mod RegisterRows
 pub mod FirstParameter
 pub mod SayTargets
 pub mod SayWalk

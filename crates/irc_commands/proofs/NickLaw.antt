@@ -1,6 +1,6 @@
 -- A NICK takes a nickname that is one and free, or its own in another spelling; and it looks at no
 -- invitation.
-use Rattle.std.proofs.Common.{◌≡◌, ℕ, true, false, not, Some, List, [], ◌∷◌, nat_eq, refl, ap}
+use Rattle.std.proofs.Common.{◌≡◌, ℕ, not, Some, List, [], ◌∷◌, nat_eq, refl, ap}
 use Rattle.std.proofs.Common.{if◌then◌else◌}
 use Rattle.std.specs.Cmp.Lexicographic.{pointwise}
 use Rattle.std.proofs.lemmas.Bool.{not-false}

@@ -1,4 +1,5 @@
--- The step of a TOPIC is its user's own, what it carries can be sent, and it looks at no invitation.
+-- The step of a TOPIC is its user's own, what it carries can be sent, and it looks at no
+-- invitation.
 use Rattle.std.proofs.Common.{◌≡◌, ℕ, not, ◌&&◌, Option, Some, None, List, [], ◌∷◌, inl, refl, ap}
 use Rattle.std.proofs.Common.{cond, subst}
 use Rattle.std.specs.List.{AllByRecursion}

@@ -19,6 +19,7 @@ ghost use Rattle.irc_commands.specs.Comings.{
 
 /// Each effect that a user's line is decided to have is possible when its turn comes, in any
 /// well-formed room: whom and what it names is there.
+#[tactic(auto, using(crate::proofs::PossibleLaws::decided_is_possible))]
 pub fn decided_is_possible()
     ensures { DecidedIsPossible }
 {}
@@ -41,6 +42,7 @@ pub fn registering_does()
 {}
 
 /// A user's line does the same whoever else is invited to channels.
+#[tactic(auto, using(crate::proofs::CommandTable::decided_by_own_invitations))]
 pub fn decided_by_own_invitations()
     ensures { DecidedByOwnInvitations }
 {}
@@ -91,6 +93,7 @@ pub fn unregistered_changes_nothing()
 {}
 
 /// A connection that is registered by a line is not closed by it.
+#[tactic(auto, using(crate::proofs::ComingLaws::registered_stays))]
 pub fn registered_stays()
     ensures { RegisteredStays }
 {}

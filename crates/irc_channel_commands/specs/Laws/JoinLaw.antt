@@ -18,7 +18,7 @@ use Rattle.irc_numerics.specs.declared.replies.Reply.TheVariants.{InviteOnlyChan
 use Rattle.irc_numerics.specs.declared.replies.Reply.TheVariants.{BadChannelKey, ChannelIsFull}
 use Rattle.irc_room.specs.Room.{Room, IsWellFormed}
 use Rattle.irc_room.specs.effect.Effect.TheVariants.{Join, Part}
-use Rattle.irc_room.specs.Effects.{has_user, is_member}
+use Rattle.irc_room.specs.Effects.{has_user}
 use Rattle.irc_room.specs.InTurn.{EachInTurn}
 use Rattle.irc_room.specs.After.{after}
 use Rattle.irc_acts.specs.declared.act.Act.{Act}
@@ -177,25 +177,18 @@ asked_alike room other me asked so =
     (so.invited (key asked.channel))
     ∙ found_by_users other room me asked (row other.channels (key asked.channel)) so.alike.users
 
--- what comes of a channel, by whether the user is in it, by how many it is in, and by what comes of
--- it otherwise
-abbrev one_by : List ℕ → Bool → ℕ → List Act → List Act
-one_by name member count found =
-    if not (is_channel name) then Answer (NoSuchChannel (client_words name)) ∷ []
-    else (if member then []
-    else (if nat_le max_joined count then Answer (TooManyChannels name) ∷ []
-    else found))
-
 one_alike : (me : User) (room other : Room) (asked : JoinEntry) → AreAlikeFor me.nick room other
     → join_one me room asked ≡ join_one me other asked
 one_alike me room other asked so =
-    ap (λ b. one_by asked.channel b (length (own_channels room me)) (joins_asked room me asked))
-    (member_alike room other so.alike (key me.nick) (key asked.channel))
-    ∙ ap (λ n. one_by asked.channel (is_member other me.nick asked.channel) n
-    (joins_asked room me asked))
-    (own_alike length (λ channels. length-map channels uninviting) room other so.alike me)
-    ∙ ap (one_by asked.channel (is_member other me.nick asked.channel)
-    (length (own_channels other me))) (asked_alike room other me asked so)
+    let member = member_alike room other so.alike (key me.nick) (key asked.channel) in
+    let count = own_alike length (λ channels. length-map channels uninviting) room other so.alike
+    me in
+    let found = asked_alike room other me asked so in
+    λ i. if not (is_channel asked.channel)
+    then Answer (NoSuchChannel (client_words asked.channel)) ∷ []
+    else (if member i then []
+    else (if nat_le max_joined (count i) then Answer (TooManyChannels asked.channel) ∷ []
+    else found i))
 
 one_keeps : (me : User) (room : Room) (asked : JoinEntry)
     → EachInTurn (IsKeeping (AreAlikeFor me.nick)) room (effects_among (join_one me room asked))

@@ -1,5 +1,5 @@
--- The steps of a MODE are its user's own, and what it changes can be sent: each change has a word of
--- its letter, which a line can carry, and together they keep the limits of one command.
+-- The steps of a MODE are its user's own, and what it changes can be sent: each change has a word
+-- of its letter, which a line can carry, and together they keep the limits of one command.
 use Rattle.std.proofs.Common.{◌≡◌, ℕ, Bool, true, false, cond, ◌++◌, find, unwrap_or, Option, Some}
 use Rattle.std.proofs.Common.{List, [], ◌∷◌, get_or, nat_eq, refl, sym, ◌∙◌, ap, subst, inl}
 use Rattle.std.specs.List.{AllByRecursion, list_all}

@@ -1,4 +1,4 @@
-use Rattle.irc_commands.proofs.HomeDecides.{registering_by_users}
+use Rattle.irc_commands.proofs.RegisteringCases.{registering_by_users}
 use Rattle.irc_commands.proofs.laws.registering_by_users.Goals as goal
 
 pub returns : goal.returns
