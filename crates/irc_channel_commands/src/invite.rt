@@ -124,26 +124,31 @@ fn invitation(me: &User, other: &User, channel: &ChannelName) -> Effect
 }
 
 /// A law: each effect of an INVITE is its user's own.
+#[tactic(auto, using(crate::specs::Laws::InviteLaw::invite_is_own))]
 pub fn is_own()
     ensures { InviteIsOwn }
 {}
 
 /// A law: in a well-formed room what an INVITE of a user does can be done, effect by effect.
+#[tactic(auto, using(crate::specs::Laws::InviteLaw::invite_is_possible))]
 pub fn is_possible()
     ensures { InviteIsPossible }
 {}
 
 /// A law: each effect of an INVITE does something.
+#[tactic(auto, using(crate::specs::Laws::InviteLaw::invite_does))]
 pub fn does_something()
     ensures { InviteDoes }
 {}
 
 /// A law: an INVITE does the same whoever is invited to channels.
+#[tactic(auto, using(crate::specs::Laws::InviteLaw::invite_looks_at_no_invitation))]
 pub fn looks_at_no_invitation()
     ensures { InviteLooksAtNoInvitation }
 {}
 
 /// A law: each effect of an INVITE can be sent.
+#[tactic(auto, using(crate::specs::Laws::InviteLaw::invite_is_sendable))]
 pub fn is_sendable()
     ensures { InviteIsSendable }
 {}

@@ -72,16 +72,19 @@ fn part_one(context: &Context<'_>, text: &Words, steps: &[Act], name: &[u8]) -> 
 }
 
 /// A law: each effect of a PART is its user's own, in the room that those before it have left.
+#[tactic(auto, using(crate::specs::Laws::PartLaw::part_is_own))]
 pub fn is_own()
     ensures { PartIsOwn }
 {}
 
 /// A law: each effect of a PART does something.
+#[tactic(auto, using(crate::specs::Laws::PartLaw::part_does))]
 pub fn does_something()
     ensures { PartDoes }
 {}
 
 /// A law: a PART does the same whoever is invited to channels.
+#[tactic(auto, using(crate::specs::Laws::PartLaw::part_looks_at_no_invitation))]
 pub fn looks_at_no_invitation()
     ensures { PartLooksAtNoInvitation }
 {}
