@@ -1,24 +1,17 @@
 -- What holds of the steps of these commands: laws, with their proofs. No rule stands here.
+pub mod Lawful
 pub mod JoinWalk
 pub mod JoinZero
 pub mod JoinLaw
-pub mod JoinDoes
-pub mod JoinSendable
 pub mod PartLaw
-pub mod PartDoes
-pub mod PartSendable
 pub mod KickLaw
-pub mod KickDoes
-pub mod KickSendable
 pub mod InviteLaw
-pub mod InviteDoes
-pub mod InviteSendable
 pub mod LimitsWritten
 pub mod MasksByFold
 pub mod BansFound
 pub mod JudgedWalk
-pub mod ModeLaw
+pub mod ModeWalk
 pub mod WordsCarried
-pub mod ModeSendable
 pub mod InvitationsLaw
+pub mod ModeLaw
 pub mod ChangesLaw

@@ -5,10 +5,9 @@ ghost use Rattle.irc_acts.specs.Refusing.{first_refusal};
 ghost use Rattle.irc_acts.specs.Steps.{by_room, Yields};
 ghost use Rattle.irc_channel_commands.specs.Invite.{invite_refusals, invite_steps, invites};
 ghost use Rattle.irc_channel_commands.specs.Invite.{invites_found, invites_there};
-ghost use Rattle.irc_channel_commands.specs.Laws.InviteDoes.{InviteDoes, InviteIsPossible};
-ghost use Rattle.irc_channel_commands.specs.Laws.InviteDoes.{InviteLooksAtNoInvitation};
-ghost use Rattle.irc_channel_commands.specs.Laws.InviteSendable.{InviteIsSendable};
-ghost use Rattle.irc_channel_commands.specs.Laws.InviteLaw.{InviteIsOwn};
+ghost use Rattle.irc_channel_commands.specs.Laws.InviteLaw.{InviteDoes, InviteIsOwn};
+ghost use Rattle.irc_channel_commands.specs.Laws.InviteLaw.{InviteIsPossible, InviteIsSendable};
+ghost use Rattle.irc_channel_commands.specs.Laws.InviteLaw.{InviteLooksAtNoInvitation};
 
 use irc_acts::refusals::no_such_channel;
 use irc_acts::standing::is_operator;
@@ -125,26 +124,31 @@ fn invitation(me: &User, other: &User, channel: &ChannelName) -> Effect
 }
 
 /// A law: each effect of an INVITE is its user's own.
+#[tactic(auto, using(crate::specs::Laws::InviteLaw::invite_is_own))]
 pub fn is_own()
     ensures { InviteIsOwn }
 {}
 
 /// A law: in a well-formed room what an INVITE of a user does can be done, effect by effect.
+#[tactic(auto, using(crate::specs::Laws::InviteLaw::invite_is_possible))]
 pub fn is_possible()
     ensures { InviteIsPossible }
 {}
 
 /// A law: each effect of an INVITE does something.
+#[tactic(auto, using(crate::specs::Laws::InviteLaw::invite_does))]
 pub fn does_something()
     ensures { InviteDoes }
 {}
 
 /// A law: an INVITE does the same whoever is invited to channels.
+#[tactic(auto, using(crate::specs::Laws::InviteLaw::invite_looks_at_no_invitation))]
 pub fn looks_at_no_invitation()
     ensures { InviteLooksAtNoInvitation }
 {}
 
 /// A law: each effect of an INVITE can be sent.
+#[tactic(auto, using(crate::specs::Laws::InviteLaw::invite_is_sendable))]
 pub fn is_sendable()
     ensures { InviteIsSendable }
 {}

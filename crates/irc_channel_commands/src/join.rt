@@ -8,8 +8,9 @@ ghost use Rattle.irc_acts.specs.Steps.{by_room, AddsTo, Yields};
 ghost use Rattle.irc_acts.specs.Moves.{AreOwnJoins, own_channels};
 ghost use Rattle.irc_channel_commands.specs.Join.{is_zero, join_list, join_steps, joiner_topic};
 ghost use Rattle.irc_channel_commands.specs.Join.{leave_each, leaves};
-ghost use Rattle.irc_channel_commands.specs.Laws.JoinLaw.{JoinIsOwnOrLeaves, LeavingAllIsOwn};
-ghost use Rattle.irc_channel_commands.specs.Laws.JoinDoes.{JoinDoes, JoinLooksAtOwnInvitations};
+ghost use Rattle.irc_channel_commands.specs.Laws.JoinLaw.{JoinDoes, JoinIsOwnOrLeaves};
+ghost use Rattle.irc_channel_commands.specs.Laws.JoinLaw.{JoinLooksAtOwnInvitations};
+ghost use Rattle.irc_channel_commands.specs.Laws.JoinLaw.{LeavingAllIsOwn};
 ghost use Rattle.irc_channel_commands.specs.Loops.JoinList.{is_in_ahead, Enters, IsNextKey};
 ghost use Rattle.irc_channel_commands.specs.Loops.JoinList.{JoinsFound, JoinsOne, JoinsThere};
 
@@ -236,21 +237,25 @@ fn put_topic(steps: &mut Vec<Act, Global>, channel: &Channel) -> Result<(), Allo
 
 /// A law: each effect of a JOIN is its user's own, in the room that those before it have left, or
 /// the user leaves all its channels.
+#[tactic(auto, using(crate::specs::Laws::JoinLaw::join_is_own_or_leaves))]
 pub fn is_own_or_leaves()
     ensures { JoinIsOwnOrLeaves }
 {}
 
 /// A law: in a well-formed room each effect of leaving all channels is its user's own too.
+#[tactic(auto, using(crate::specs::Laws::JoinLaw::leaving_all_is_own))]
 pub fn leaving_all_is_own()
     ensures { LeavingAllIsOwn }
 {}
 
 /// A law: each effect of a JOIN does something.
+#[tactic(auto, using(crate::specs::Laws::JoinLaw::join_does))]
 pub fn does_something()
     ensures { JoinDoes }
 {}
 
 /// A law: a JOIN does the same whoever else is invited to channels.
+#[tactic(auto, using(crate::specs::Laws::JoinLaw::join_looks_at_own_invitations))]
 pub fn looks_at_own_invitations()
     ensures { JoinLooksAtOwnInvitations }
 {}

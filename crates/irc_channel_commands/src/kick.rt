@@ -6,10 +6,8 @@ ghost use Rattle.irc_acts.specs.Moves.{AreLeaves};
 ghost use Rattle.irc_acts.specs.Refusing.{first_refusal};
 ghost use Rattle.irc_acts.specs.Steps.{by_room, Yields};
 ghost use Rattle.irc_channel_commands.specs.Kick.{kick_lists, kick_refusals, kick_steps, kicking};
-ghost use Rattle.irc_channel_commands.specs.Laws.KickDoes.{KickDoes, KickIsPossible};
-ghost use Rattle.irc_channel_commands.specs.Laws.KickDoes.{KickLooksAtNoInvitation};
-ghost use Rattle.irc_channel_commands.specs.Laws.KickSendable.{KickIsSendable};
-ghost use Rattle.irc_channel_commands.specs.Laws.KickLaw.{KickIsOwn};
+ghost use Rattle.irc_channel_commands.specs.Laws.KickLaw.{KickDoes, KickIsOwn, KickIsPossible};
+ghost use Rattle.irc_channel_commands.specs.Laws.KickLaw.{KickIsSendable, KickLooksAtNoInvitation};
 ghost use Rattle.irc_channel_commands.specs.Loops.KickList.{kick_list, member_ahead, IsKick};
 ghost use Rattle.irc_channel_commands.specs.Loops.KickList.{IsKickAhead, IsNextKick};
 
@@ -179,26 +177,31 @@ fn kick(me: &User, text: &Words, channel: &ChannelName, nick: &[u8], member: Opt
 }
 
 /// A law: each effect of a KICK is its user's own, in the room that those before it have left.
+#[tactic(auto, using(crate::specs::Laws::KickLaw::kick_is_own))]
 pub fn is_own()
     ensures { KickIsOwn }
 {}
 
 /// A law: in a well-formed room what a KICK of a user does can be done, effect by effect.
+#[tactic(auto, using(crate::specs::Laws::KickLaw::kick_is_possible))]
 pub fn is_possible()
     ensures { KickIsPossible }
 {}
 
 /// A law: each effect of a KICK does something.
+#[tactic(auto, using(crate::specs::Laws::KickLaw::kick_does))]
 pub fn does_something()
     ensures { KickDoes }
 {}
 
 /// A law: a KICK does the same whoever is invited to channels.
+#[tactic(auto, using(crate::specs::Laws::KickLaw::kick_looks_at_no_invitation))]
 pub fn looks_at_no_invitation()
     ensures { KickLooksAtNoInvitation }
 {}
 
 /// A law: in a room within limits each effect of a KICK can be sent.
+#[tactic(auto, using(crate::specs::Laws::KickLaw::kick_is_sendable))]
 pub fn is_sendable()
     ensures { KickIsSendable }
 {}

@@ -3,8 +3,7 @@ ghost use Rattle.irc_line.specs.PartViews.{words_now};
 ghost use Rattle.irc_acts.specs.Steps.{by_room, Yields};
 ghost use Rattle.irc_channel_commands.specs.Laws.ChangesLaw.{ModeDoesSomething};
 ghost use Rattle.irc_channel_commands.specs.Laws.InvitationsLaw.{ModeLooksAtNoInvitations};
-ghost use Rattle.irc_channel_commands.specs.Laws.ModeLaw.{ModeIsOwn};
-ghost use Rattle.irc_channel_commands.specs.Laws.ModeSendable.{ModeIsSendable};
+ghost use Rattle.irc_channel_commands.specs.Laws.ModeLaw.{ModeIsOwn, ModeIsSendable};
 ghost use Rattle.irc_channel_commands.specs.Mode.{mode_steps};
 
 use crate::{channel_mode, user_mode};
@@ -32,22 +31,26 @@ pub fn steps(
 }
 
 /// A law: each effect of a MODE is its user's own.
+#[tactic(auto, using(crate::specs::Laws::ModeLaw::mode_is_own))]
 pub fn is_own()
     ensures { ModeIsOwn }
 {}
 
 /// A law: a MODE does the same in rooms that differ in invitations alone.
+#[tactic(auto, using(crate::specs::Laws::InvitationsLaw::mode_looks_at_no_invitations))]
 pub fn looks_at_no_invitations()
     ensures { ModeLooksAtNoInvitations }
 {}
 
 /// A law: each change that a MODE makes leaves another channel than those before it have left, and
 /// a user's own mode is made another.
+#[tactic(auto, using(crate::specs::Laws::ChangesLaw::mode_does_something))]
 pub fn does_something()
     ensures { ModeDoesSomething }
 {}
 
 /// A law: in a room within limits what a MODE changes can be sent.
+#[tactic(auto, using(crate::specs::Laws::ModeLaw::mode_is_sendable))]
 pub fn is_sendable()
     ensures { ModeIsSendable }
 {}

@@ -3,8 +3,8 @@ ghost use Rattle.irc_line.specs.PartViews.{words_now};
 ghost use Rattle.irc_acts.specs.Moves.{AreLeaves};
 ghost use Rattle.irc_acts.specs.Steps.{by_room, Yields};
 ghost use Rattle.irc_channel_commands.specs.Part.{part_list, part_steps};
-ghost use Rattle.irc_channel_commands.specs.Laws.PartLaw.{PartIsOwn};
-ghost use Rattle.irc_channel_commands.specs.Laws.PartDoes.{PartDoes, PartLooksAtNoInvitation};
+ghost use Rattle.irc_channel_commands.specs.Laws.PartLaw.{PartDoes, PartIsOwn};
+ghost use Rattle.irc_channel_commands.specs.Laws.PartLaw.{PartLooksAtNoInvitation};
 ghost use Rattle.irc_channel_commands.specs.Loops.PartList.{IsPartAhead};
 
 use irc_acts::ahead::{self, know_well_formed};
@@ -72,16 +72,19 @@ fn part_one(context: &Context<'_>, text: &Words, steps: &[Act], name: &[u8]) -> 
 }
 
 /// A law: each effect of a PART is its user's own, in the room that those before it have left.
+#[tactic(auto, using(crate::specs::Laws::PartLaw::part_is_own))]
 pub fn is_own()
     ensures { PartIsOwn }
 {}
 
 /// A law: each effect of a PART does something.
+#[tactic(auto, using(crate::specs::Laws::PartLaw::part_does))]
 pub fn does_something()
     ensures { PartDoes }
 {}
 
 /// A law: a PART does the same whoever is invited to channels.
+#[tactic(auto, using(crate::specs::Laws::PartLaw::part_looks_at_no_invitation))]
 pub fn looks_at_no_invitation()
     ensures { PartLooksAtNoInvitation }
 {}

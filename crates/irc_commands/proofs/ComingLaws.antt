@@ -11,7 +11,8 @@ use Rattle.irc_commands.specs.Comings.{UnregisteredChangesNothing, RegisteredSta
 use Rattle.irc_acts.specs.Moves.{own_channels}
 use Rattle.irc_commands.proofs.NeverOwn.{never_own, none_leaving, own_adds_nobody, own_ends_nobody}
 use Rattle.irc_commands.proofs.NeverOwn.{own_renames_nobody}
-use Rattle.irc_commands.proofs.TableCases.{decided_so, registering_so}
+use Rattle.irc_commands.proofs.CommandTable.{decided_so}
+use Rattle.irc_commands.proofs.RegisteringCases.{registering_so}
 
 pub decided_adds_nobody : DecidedAddsNobody
 decided_adds_nobody room place who message =
@@ -70,11 +71,11 @@ pub registered_is_added : RegisteredIsAdded
 registered_is_added room place pending message =
     registering_so room place pending message (λ r. r.registered ≡ true
     → AddsFirst place r.pending.nick r.steps) (record {
-      silent = λ pending registered. absurd (false≢true registered);
-      answered = λ pending reply registered. absurd (false≢true registered);
-      told = λ pending line registered. absurd (false≢true registered);
-      closed = λ pending line registered. absurd (false≢true registered);
-      added = λ pending nickname username is free registered. record {
+      silent = λ pending given registered. absurd (false≢true registered);
+      answered = λ pending given reply registered. absurd (false≢true registered);
+      told = λ pending given line registered. absurd (false≢true registered);
+      closed = λ pending given line registered. absurd (false≢true registered);
+      added = λ pending given nickname username is named free registered. record {
         user = _;
         behind = _;
         steps_are = refl;
@@ -88,19 +89,20 @@ pub unregistered_changes_nothing : UnregisteredChangesNothing
 unregistered_changes_nothing room place pending message =
     registering_so room place pending message (λ r. r.registered ≡ false
     → list_any is_effect r.steps ≡ false) (record {
-      silent = λ pending unregistered. refl;
-      answered = λ pending reply unregistered. refl;
-      told = λ pending line unregistered. refl;
-      closed = λ pending line unregistered. refl;
-      added = λ pending nickname username is free unregistered. absurd (true≢false unregistered);
+      silent = λ pending given unregistered. refl;
+      answered = λ pending given reply unregistered. refl;
+      told = λ pending given line unregistered. refl;
+      closed = λ pending given line unregistered. refl;
+      added = λ pending given nickname username is named free unregistered.
+          absurd (true≢false unregistered);
     })
 
 pub registered_stays : RegisteredStays
 registered_stays room place pending message =
     registering_so room place pending message (λ r. r.registered ≡ true → r.close ≡ false) (record {
-      silent = λ pending registered. refl;
-      answered = λ pending reply registered. refl;
-      told = λ pending line registered. refl;
-      closed = λ pending line registered. absurd (false≢true registered);
-      added = λ pending nickname username is free registered. refl;
+      silent = λ pending given registered. refl;
+      answered = λ pending given reply registered. refl;
+      told = λ pending given line registered. refl;
+      closed = λ pending given line registered. absurd (false≢true registered);
+      added = λ pending given nickname username is named free registered. refl;
     })

@@ -8,7 +8,8 @@ use Rattle.irc_acts.specs.OwnLaws.{stored_there}
 use Rattle.irc_channel_commands.specs.Join.{leaves}
 use Rattle.irc_channel_commands.specs.Laws.JoinLaw.{leaving_all_is_own}
 use Rattle.irc_commands.specs.Doing.{DecidedDoes, RegisteringDoes}
-use Rattle.irc_commands.proofs.TableCases.{decided_so, registering_so}
+use Rattle.irc_commands.proofs.CommandTable.{decided_so}
+use Rattle.irc_commands.proofs.RegisteringCases.{registering_so}
 
 pub decided_does : DecidedDoes
 decided_does room place who message well =
@@ -25,9 +26,9 @@ decided_does room place who message well =
 pub registering_does : RegisteringDoes
 registering_does room place pending message =
     registering_so room place pending message (λ r. AreDoing room r.steps) (record {
-      silent = λ pending. tt;
-      answered = λ pending reply. tt;
-      told = λ pending line. tt;
-      closed = λ pending line. tt;
-      added = λ pending nickname username is free. record { now = refl; later = tt };
+      silent = λ pending given. tt;
+      answered = λ pending given reply. tt;
+      told = λ pending given line. tt;
+      closed = λ pending given line. tt;
+      added = λ pending given nickname username is named free. record { now = refl; later = tt };
     })

@@ -11,24 +11,15 @@ use Rattle.irc_room.specs.After.{after}
 use Rattle.irc_room.specs.InTurn.{EachInTurn}
 use Rattle.irc_acts.specs.Acts.{effects_among}
 use Rattle.irc_acts.specs.Moves.{own_channels}
-use Rattle.irc_acts.specs.Own.{IsOwn, to_user, to_channel, makes, enters, parts, sets_topic, kicks}
-use Rattle.irc_acts.specs.Own.{invites, changes_modes, changes_itself}
+use Rattle.irc_acts.specs.Own.{IsOwn, to_user}
 use Rattle.irc_channel_commands.specs.Join.{leaves}
 use Rattle.irc_commands.specs.Doers.{IsDoneBy, DecidedByItself}
-use Rattle.irc_commands.proofs.TableCases.{decided_so}
+use Rattle.irc_commands.proofs.CommandTable.{decided_so}
 
 own_is_done : (me : User) (room : Room) (effect : Effect) → IsOwn me room effect
     → IsDoneBy me effect
 own_is_done me room effect (to_user name other notice words is) = refl
-own_is_done me room effect (to_channel name channel notice words is) = refl
-own_is_done me room effect (makes name named none) = refl
-own_is_done me room effect (enters name channel is outside) = refl
-own_is_done me room effect (parts name text channel is member) = refl
-own_is_done me room effect (sets_topic name text channel is) = refl
-own_is_done me room effect (kicks name nick text channel other is member known) = refl
-own_is_done me room effect (invites nick name other is named) = refl
-own_is_done me room effect (changes_modes name changes channel is) = refl
-own_is_done me room effect (changes_itself change keeps) = refl
+own_is_done me room effect own = refl
 
 all_done : (me : User) (room : Room) (effects : List Effect) → EachInTurn (IsOwn me) room effects
     → AllByRecursion (IsDoneBy me) effects

@@ -12,7 +12,8 @@ use Rattle.irc_acts.specs.OwnLaws.{stored_there, one_there, own_are_possible}
 use Rattle.irc_acts.specs.Moves.{own_channels}
 use Rattle.irc_channel_commands.specs.Join.{leaves}
 use Rattle.irc_channel_commands.specs.Laws.JoinLaw.{leaving_all_is_own}
-use Rattle.irc_commands.proofs.TableCases.{decided_so, registering_so}
+use Rattle.irc_commands.proofs.CommandTable.{decided_so}
+use Rattle.irc_commands.proofs.RegisteringCases.{registering_so}
 
 -- a nickname that is not another's is nobody's, or the user's own
 free_or_own : (room : Room) (me : User) (nickname : List ℕ) → is_anothers room me nickname ≡ false
@@ -55,11 +56,11 @@ decided_is_possible room place who message well =
 pub registering_is_possible : RegisteringIsPossible
 registering_is_possible room place pending message well =
     registering_so room place pending message (λ r. ArePossible room r.steps) (record {
-      silent = λ pending. tt;
-      answered = λ pending reply. tt;
-      told = λ pending line. tt;
-      closed = λ pending line. tt;
-      added = λ pending nickname username is free. record {
+      silent = λ pending given. tt;
+      answered = λ pending given reply. tt;
+      told = λ pending given line. tt;
+      closed = λ pending given line. tt;
+      added = λ pending given nickname username is named free. record {
         now = record {
           users_there = refl;
           channel_there = refl;

@@ -12,10 +12,9 @@ use Rattle.irc_acts.specs.Moves.{own_channels}
 use Rattle.irc_acts.specs.Sendable.{AreSendable}
 use Rattle.irc_acts.specs.SendableLaws.{nick_stored, own_are_sendable}
 use Rattle.irc_channel_commands.specs.Join.{leaves}
-use Rattle.irc_channel_commands.specs.Laws.JoinLaw.{leaving_all_is_own}
-use Rattle.irc_channel_commands.specs.Laws.JoinSendable.{leaving_carries}
+use Rattle.irc_channel_commands.specs.Laws.JoinLaw.{leaving_all_is_own, leaving_carries}
 use Rattle.irc_commands.specs.Sendable.{DecidedIsSendable}
-use Rattle.irc_commands.proofs.TableCases.{decided_so}
+use Rattle.irc_commands.proofs.CommandTable.{decided_so}
 
 pub all_words : (line : List ℕ) (words : List (List ℕ)) → AllByRecursion (IsWordOf line) words
     → AllByRecursion IsCarried words

@@ -1,4 +1,6 @@
 -- What holds of the steps of these commands: laws, with their proofs. No rule stands here.
+pub mod OnlyAsks
+pub mod NamesAsks
 pub mod IsonLaw
 pub mod LusersLaw
 pub mod ListLaw

@@ -141,6 +141,7 @@ fn add_one<'a>(
 }
 
 /// A law: an ISON has no effect, whatever the room is.
+#[tactic(auto, using(crate::specs::Laws::IsonLaw::ison_only_answers))]
 pub fn only_answers()
     ensures { IsonOnlyAnswers }
 {}

@@ -150,6 +150,7 @@ fn is_named(room: &Room, all: bool, member: &Row<Flags>) -> bool
 }
 
 /// A law: a LIST has no effect, whatever the room is.
+#[tactic(auto, using(crate::specs::Laws::ListLaw::list_only_answers))]
 pub fn only_answers()
     ensures { ListOnlyAnswers }
 {}

@@ -50,6 +50,7 @@ fn link_count(routes: &Routes) -> Result<usize, AllocError>
 }
 
 /// A law: a LUSERS has no effect, whatever the room is.
+#[tactic(auto, using(crate::specs::Laws::LusersLaw::lusers_only_answers))]
 pub fn only_answers()
     ensures { LusersOnlyAnswers }
 {}

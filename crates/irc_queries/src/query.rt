@@ -42,6 +42,7 @@ pub fn answer(
 }
 
 /// A law: a query has no effect, whatever the room is.
+#[tactic(auto, using(crate::specs::Laws::QueryLaw::query_only_answers))]
 pub fn only_answers()
     ensures { QueryOnlyAnswers }
 {}

@@ -256,6 +256,7 @@ fn hops_to(routes: &Routes, home: &ServerName) -> u32
 }
 
 /// A law: a WHO has no effect, whatever the room is.
+#[tactic(auto, using(crate::specs::Laws::WhoLaw::who_only_answers))]
 pub fn only_answers()
     ensures { WhoOnlyAnswers }
 {}

@@ -246,6 +246,7 @@ fn channels_line(user: &User, channels: LineChannels) -> Act
 }
 
 /// A law: a WHOIS has no effect, whatever the room is.
+#[tactic(auto, using(crate::specs::Laws::WhoisLaw::whois_only_answers))]
 pub fn only_answers()
     ensures { WhoisOnlyAnswers }
 {}

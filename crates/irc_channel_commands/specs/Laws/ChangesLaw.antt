@@ -43,7 +43,7 @@ use Rattle.irc_channel_commands.specs.Laws.BansFound.{find_any, find_passes, any
 use Rattle.irc_channel_commands.specs.Laws.BansFound.{stored_is_mask}
 use Rattle.irc_channel_commands.specs.Laws.JudgedWalk.{IsSo, judged_so}
 use Rattle.irc_channel_commands.specs.Laws.LimitsWritten.{limit_still, number_still}
-use Rattle.irc_channel_commands.specs.Laws.ModeLaw.{changed_by, mode_so}
+use Rattle.irc_channel_commands.specs.Laws.ModeWalk.{changed_by, mode_so}
 
 -- each of some changes leaves another channel than those before it have left
 abbrev pub EachChanges : Channel → List ModeChange → Type 0

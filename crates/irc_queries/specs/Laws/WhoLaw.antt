@@ -1,14 +1,16 @@
--- The steps of a WHO are answers.
+-- The steps of a WHO are answers, the same whoever is invited.
 use Rattle.std.proofs.Common.{◌≡◌, ℕ, Bool, true, false, cond, Option, Some, None, List, [], ◌∷◌}
-use Rattle.std.proofs.Common.{codes, ◌&&◌, filter, map, refl}
+use Rattle.std.proofs.Common.{codes, ◌&&◌, filter, map, refl, not, ◌||◌, ◌++◌, sym, ◌∙◌, ap}
 use Rattle.std.specs.List.{cons_option, filter_map}
-use Rattle.std.specs.Option.{option_and_then}
+use Rattle.std.specs.Option.{option_and_then, option_map}
 use Rattle.std.specs.FinMap.{entries, values}
-use Rattle.irc_names.specs.Fold.{key}
-use Rattle.irc_names.specs.Tables.{row}
+use Rattle.std.proofs.Math.Path.{fun_ext}
+use Rattle.irc_names.specs.Fold.{key, same}
+use Rattle.irc_names.specs.Tables.{row, Table}
 use Rattle.irc_users.specs.declared.user.User.{User}
 use Rattle.irc_channels.specs.declared.flags.Flags.{Flags}
 use Rattle.irc_channels.specs.declared.channel.Channel.{Channel}
+use Rattle.irc_channels.specs.Channels.{has_member}
 use Rattle.irc_numerics.specs.declared.replies.MemberMark.TheVariants.{Plain}
 use Rattle.irc_room.specs.Room.{Room}
 use Rattle.irc_routes.specs.Place.{Place}
@@ -16,11 +18,15 @@ use Rattle.irc_acts.specs.declared.act.Act.{Act}
 use Rattle.irc_acts.specs.Acts.{effects_among}
 use Rattle.irc_acts.specs.AheadLaws.{none-both}
 use Rattle.irc_acts.specs.Marks.{asterisk}
-use Rattle.irc_acts.specs.Standing.{is_known, is_seen, mark_of}
+use Rattle.irc_acts.specs.Standing.{is_known, is_seen, mark_of, is_seen_from}
 use Rattle.irc_acts.specs.Words.{names_channel}
+use Rattle.irc_acts.specs.AlikeChannels.{own_alike}
+use Rattle.irc_acts.specs.AlikeRows.{any_changed}
+use Rattle.irc_acts.specs.OtherInvitations.{uninviting, AreAlike}
 use Rattle.irc_queries.specs.Who.{user_line, member_if_seen, member_line, replies_of_members}
 use Rattle.irc_queries.specs.Who.{replies_of_users, is_asked_for, who_replies, asks_for_operators}
-use Rattle.irc_queries.specs.Who.{end_of_who, who_steps}
+use Rattle.irc_queries.specs.Who.{end_of_who, who_steps, replies_of_seen}
+use Rattle.irc_queries.specs.Laws.OnlyAsks.{OnlyAsks}
 
 -- a WHO changes nothing and says nothing to others
 abbrev pub WhoOnlyAnswers : Type 0
@@ -90,3 +96,62 @@ who_only_answers room place me (asked ∷ more) =
     (end_of_who asked ∷ [])
     (either (asks_for_operators more) [] (who_replies room place me asked) refl
     (told_answers room place me asked)) refl
+
+module _ (room other : Room) (alike : AreAlike room other) where
+  seen_alike : (me user : User) → is_seen room me user ≡ is_seen other me user
+  seen_alike me user =
+      own_alike (λ own. is_seen_from own me user)
+      (λ own. ap (λ b. same me.nick user.nick || (not user.invisible || b))
+      (any_changed uninviting (has_member (key user.nick)) (λ channel. refl) own))
+      room other alike me
+
+  members_by_users : (place : Place) (seen : User → Bool) (me : User) (found : Option Channel)
+      → replies_of_members room place seen me found ≡ replies_of_members other place seen me found
+  members_by_users place seen me None = refl
+  members_by_users place seen me (Some channel) =
+      ap (λ (users : Table User). cond (is_known me channel)
+      (filter_map (λ member. option_and_then (member_if_seen place seen channel member.1)
+      (row users member.0)) (entries channel.members)) []) alike.users
+
+  members_aside : (place : Place) (seen : User → Bool) (me : User) (found : Option Channel)
+      → replies_of_members other place seen me found ≡ replies_of_members other place seen me
+      (option_map uninviting found)
+  members_aside place seen me None = refl
+  members_aside place seen me (Some channel) = refl
+
+  members_alike : (place : Place) (seen : User → Bool) (me : User) (fold : List ℕ)
+      → replies_of_members room place seen me (row room.channels fold)
+      ≡ replies_of_members other place seen me (row other.channels fold)
+  members_alike place seen me fold =
+      members_by_users place seen me (row room.channels fold)
+      ∙ members_aside place seen me (row room.channels fold)
+      ∙ ap (replies_of_members other place seen me) (alike.channels fold)
+      ∙ sym (members_aside place seen me (row other.channels fold))
+
+  who_told_alike : (place : Place) (me : User) (asked : List ℕ)
+      → who_replies room place me asked ≡ who_replies other place me asked
+  who_told_alike place me asked =
+      ap (λ (seen : User → Bool). replies_of_seen room place seen me asked)
+      (fun_ext (seen_alike me))
+      ∙ ap (λ acts. cond (names_channel asked) acts
+      (replies_of_users place (λ user. is_seen other me user) asked (values room.users)))
+      (members_alike place (λ user. is_seen other me user) me (key asked))
+      ∙ ap (λ users. cond (names_channel asked) (replies_of_members other place
+      (λ user. is_seen other me user) me (row other.channels (key asked)))
+      (replies_of_users place (λ user. is_seen other me user) asked (values users))) alike.users
+
+  who_alike : (place : Place) (me : User) (params : List (List ℕ))
+      → who_steps room place me params ≡ who_steps other place me params
+  unfolding who_steps
+  who_alike place me [] =
+      ap (λ acts. acts ++ end_of_who (asterisk ∷ []) ∷ []) (who_told_alike place me (codes "0"))
+  who_alike place me (asked ∷ more) =
+      ap (λ acts. cond (asks_for_operators more) [] acts ++ end_of_who asked ∷ [])
+      (who_told_alike place me asked)
+
+pub who_only_asks : (place : Place) (params : List (List ℕ))
+    → OnlyAsks (λ me room. who_steps room place me params)
+who_only_asks place params = record {
+  answers = λ me room. who_only_answers room place me params;
+  alike = λ me room other alike. who_alike room other alike place me params;
+}

@@ -1,5 +1,0 @@
-use Rattle.irc_channel_commands.specs.Laws.InviteLaw.{invite_is_own}
-use Rattle.irc_channel_commands.proofs.invite.is_own.Goals as goal
-
-pub returns : goal.returns
-returns c = invite_is_own

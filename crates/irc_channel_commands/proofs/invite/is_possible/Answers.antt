@@ -1,5 +1,0 @@
-use Rattle.irc_channel_commands.specs.Laws.InviteDoes.{invite_is_possible}
-use Rattle.irc_channel_commands.proofs.invite.is_possible.Goals as goal
-
-pub returns : goal.returns
-returns c = invite_is_possible

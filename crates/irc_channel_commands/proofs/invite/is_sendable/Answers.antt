@@ -1,5 +1,0 @@
-use Rattle.irc_channel_commands.specs.Laws.InviteSendable.{invite_is_sendable}
-use Rattle.irc_channel_commands.proofs.invite.is_sendable.Goals as goal
-
-pub returns : goal.returns
-returns c = invite_is_sendable

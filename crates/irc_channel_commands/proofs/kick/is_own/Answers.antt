@@ -1,5 +1,0 @@
-use Rattle.irc_channel_commands.specs.Laws.KickLaw.{kick_is_own}
-use Rattle.irc_channel_commands.proofs.kick.is_own.Goals as goal
-
-pub returns : goal.returns
-returns c = kick_is_own

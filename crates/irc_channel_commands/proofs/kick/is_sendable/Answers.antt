@@ -1,5 +1,0 @@
-use Rattle.irc_channel_commands.specs.Laws.KickSendable.{kick_is_sendable}
-use Rattle.irc_channel_commands.proofs.kick.is_sendable.Goals as goal
-
-pub returns : goal.returns
-returns c = kick_is_sendable

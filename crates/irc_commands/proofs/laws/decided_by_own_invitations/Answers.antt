@@ -1,5 +1,0 @@
-use Rattle.irc_commands.proofs.CommandsAlike.{decided_by_own_invitations}
-use Rattle.irc_commands.proofs.laws.decided_by_own_invitations.Goals as goal
-
-pub returns : goal.returns
-returns c = decided_by_own_invitations
