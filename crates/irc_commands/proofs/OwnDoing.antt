@@ -28,7 +28,7 @@ own_is_done me room effect (sets_topic name text channel is) = refl
 own_is_done me room effect (kicks name nick text channel other is member known) = refl
 own_is_done me room effect (invites nick name other is named) = refl
 own_is_done me room effect (changes_modes name changes channel is) = refl
-own_is_done me room effect (changes_itself change keeps) = refl
+own_is_done me room effect (changes_itself change) = refl
 
 all_done : (me : User) (room : Room) (effects : List Effect) → EachInTurn (IsOwn me) room effects
     → AllByRecursion (IsDoneBy me) effects
