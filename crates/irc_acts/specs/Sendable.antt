@@ -39,8 +39,8 @@ pub record AreSentWhole (room : Room) (changes : List ModeChange) : Type 0 where
   pub changes_readable : AreReadable changes
   pub words_sent : AllByRecursion (IsSentChange room) changes
 
--- the texts and the changes that an effect carries can be sent, and what a user sets of itself keeps
--- its limit
+-- the texts and the changes that an effect carries can be sent, and what a user sets of itself
+-- keeps its limit
 abbrev pub CarriesSendable : Room → Effect → Type 0
 CarriesSendable room (Part nick channel text) = IsCarriedText text
 CarriesSendable room (Kick by channel nick text) = IsCarriedText text

@@ -7,7 +7,7 @@ use Rattle.irc_room.specs.effect.Effect.TheVariants.{AddUser, Rename, Quit, Say,
 use Rattle.irc_room.specs.Room.{Room}
 use Rattle.irc_room.specs.Seen.{changes_words}
 use Rattle.irc_modes.specs.declared.modes.ModeChange.{ModeChange}
-use Rattle.irc_link_words.specs.Words.{with_i, without_i, no_mode, marked}
+use Rattle.irc_link_words.specs.Words.{with_i, no_mode, marked}
 use Rattle.irc_link_writer.specs.Written.{from}
 
 -- an effect on users alone, a text or an invitation
@@ -34,7 +34,7 @@ introduced user distance token = record {
 abbrev pub head_text : List ℕ → List ℕ → List ℕ → List ℕ
 head_text name command channel = codes ":" ++ name ++ command ++ channel ++ codes " "
 
--- ---- the lines of a channel, of an invitation and of a user's mode
+-- ---- the lines of a channel, and of an invitation
 
 abbrev pub written_modes : Room → List ℕ → List ℕ → List ModeChange → Written
 written_modes room name channel changes =
@@ -49,7 +49,3 @@ written_kick by channel nick text =
 
 abbrev pub written_invite : List ℕ → List ℕ → List ℕ → Written
 written_invite by nick channel = from by (codes "INVITE") (nick ∷ channel ∷ []) None
-
-abbrev pub written_user_mode : List ℕ → Bool → Written
-written_user_mode nick invisible =
-    from nick (codes "MODE") (nick ∷ (if invisible then with_i else without_i) ∷ []) None
