@@ -1,7 +1,8 @@
 //! Lines of users (RFC 2813 section 4).
 ghost use Rattle.std.specs.Prelude.{◌≡◌, None, Some, IsOk, true};
 ghost use Rattle.irc_line.specs.MessageViews.{optional_now};
-ghost use Rattle.irc_link_reader.specs.Loops.Readings.{IsNewcomer, IsUserMode, ReadsEffect};
+ghost use Rattle.irc_link_reader.specs.Loops.Readings.{IsNewcomer, IsOwnChange, IsUserMode};
+ghost use Rattle.irc_link_reader.specs.Loops.Readings.{ReadsEffect};
 ghost use Rattle.irc_link_reader.specs.Loops.Readings.{are_right, home_now, home_or_fault};
 ghost use Rattle.irc_link_reader.specs.Loops.Readings.{reader};
 ghost use Rattle.irc_link_reader.specs.Means.{invite_line, is_itself_or_none, nick_line, quit_line};
@@ -16,7 +17,7 @@ use irc_link_words::{
 };
 use irc_names::{ServerName, is_nick, same};
 use irc_room::Effect;
-use irc_users::User;
+use irc_users::{User, UserChange};
 
 /// A user leaves.
 pub(crate) fn quit_line(
@@ -195,9 +196,21 @@ pub(crate) fn user_mode_line(
 ) -> Result<Option<Effect>, CloseReason>
     ensures { IsUserMode at.entry nick.now target.now params.entry result }
 {
-    let Some(change) = read_user_change(params.rest()) else {
-        return Err(CloseReason::Parameters);
-    };
+    match read_user_change(params.rest()) {
+        Some(change) => change_line(at, nick, target, change),
+        None => Err(CloseReason::Parameters),
+    }
+}
+
+/// The same of a change that was read.
+fn change_line(
+    at: Arrival<'_>,
+    nick: &[u8],
+    target: &[u8],
+    change: UserChange,
+) -> Result<Option<Effect>, CloseReason>
+    ensures { IsOwnChange at.entry nick.now target.now (Some change) result }
+{
     if !is_itself_or_none(nick, target) {
         return Err(CloseReason::Parameters);
     }

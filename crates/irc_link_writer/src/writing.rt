@@ -9,7 +9,7 @@ ghost use Rattle.irc_room.specs.Effects.{by_nick};
 ghost use Rattle.irc_room.specs.Room.{Room as RoomNow};
 ghost use Rattle.irc_room.specs.Loops.Naming.{row_of, IsNamed};
 ghost use Rattle.irc_link_writer.specs.Loops.Families.{IsOfUsers, introduced, written_invite};
-ghost use Rattle.irc_link_writer.specs.Loops.Families.{written_join, written_kick};
+ghost use Rattle.irc_link_writer.specs.Loops.Families.{written_join, written_kick, written_own};
 ghost use Rattle.irc_link_words.specs.Words.{marked};
 ghost use Rattle.irc_link_writer.specs.Written.{by_name, from, introduction, next_distance, wire};
 ghost use Rattle.irc_link_writer.specs.Written.{wire_change, written_token};
@@ -195,8 +195,14 @@ fn invite_line<'a>(by: &[u8], nick: &'a [u8], channel: &'a [u8]) -> Text
 fn change_line(nick: &[u8], change: &UserChange) -> Text
     ensures { result.items ≡ text (wire_change nick.now change.now) }
 {
-    let letters: &[u8] = change_letters(change);
-    line(nick, b"MODE", &[nick, letters], change_text(change))
+    own_line(nick, change_letters(change), change_text(change))
+}
+
+/// A MODE of a user, which is from itself.
+fn own_line<'a>(nick: &'a [u8], letters: &'a [u8], last: Option<&[u8]>) -> Text
+    ensures { result.items ≡ text (written_own nick.now letters.now (optional_now last.entry)) }
+{
+    line(nick, b"MODE", &[nick, letters], last)
 }
 
 /// The line that introduces a user (RFC 2813 section 4.1.3). It takes no memory.
