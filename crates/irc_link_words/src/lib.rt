@@ -31,8 +31,8 @@ pub use peers::{not_taken, refusal};
 pub use user_changes::{change_letters, change_text, read_user_change};
 pub use words::{
     OPERATOR_MARK, is_come_mode, is_command, is_for_channel, is_marked, is_real_name, is_user_name,
-    is_with_i, read_channel, read_host, read_line, read_nick, read_server,
-    read_target, read_words, real_name, unmarked, user_name,
+    is_with_i, read_channel, read_host, read_line, read_nick, read_server, read_target, read_words,
+    real_name, unmarked, user_name,
 };
 
 /// The version that PASS tells of (RFC 2813 section 4.1.1). It changes with what servers write to
