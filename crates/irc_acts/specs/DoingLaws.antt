@@ -50,7 +50,7 @@ own_does me room effect well (kicks name nick text channel other is member known
     ∙ member)
 own_does me room effect well (invites nick name other is named) = refl
 own_does me room effect well (changes_modes name changes channel is) = refl
-own_does me room effect well (changes_itself change keeps) = refl
+own_does me room effect well (changes_itself change) = refl
 
 pub own_are_doing : (me : User) (room : Room) (acts : List Act) → IsWellFormed room
     → has_user room me.nick ≡ true → AreOwn me room acts → AreDoing room acts

@@ -16,7 +16,6 @@ use Rattle.irc_room.specs.effect.Effect.TheVariants.{Join, Part, Kick, ChangeMod
 use Rattle.irc_room.specs.effect.Effect.TheVariants.{Invite, ChangeUser}
 use Rattle.irc_room.specs.Room.{Room}
 use Rattle.irc_room.specs.InTurn.{EachInTurn}
-use Rattle.irc_room.specs.Limits.{IsChangeWithin}
 use Rattle.irc_acts.specs.declared.act.Act.{Act}
 use Rattle.irc_acts.specs.Acts.{bytes_kept, effects_among}
 
@@ -59,8 +58,7 @@ pub data IsOwn (me : User) (room : Room) : Effect → Type 0 where
   changes_modes : (name : List ℕ) (changes : List ModeChange) (channel : Channel)
       → row room.channels (key name) ≡ Some channel
       → IsOwn me room (ChangeModes (by.User me.nick) channel.name changes)
-  changes_itself : (change : UserChange) → IsChangeWithin change
-      → IsOwn me room (ChangeUser me.nick change)
+  changes_itself : (change : UserChange) → IsOwn me room (ChangeUser me.nick change)
 
 -- each effect of these steps is its own in the room that those before it have left
 abbrev pub AreOwn : User → Room → List Act → Type 0

@@ -108,7 +108,7 @@ own_possible me room effect well there (changes_modes name changes channel is) =
   channel_there = channel_there room well (key name) channel is;
   nick_free = refl;
 }
-own_possible me room effect well there (changes_itself change keeps) =
+own_possible me room effect well there (changes_itself change) =
     record { users_there = one_there room me.nick there; channel_there = refl; nick_free = refl }
 
 -- who is a user stays one, and nobody else becomes one
@@ -124,7 +124,7 @@ own_stays me room effect (sets_topic name text channel is) fold = refl
 own_stays me room effect (kicks name nick text channel other is member known) fold = refl
 own_stays me room effect (invites nick name other is named) fold = refl
 own_stays me room effect (changes_modes name changes channel is) fold = refl
-own_stays me room effect (changes_itself change keeps) fold =
+own_stays me room effect (changes_itself change) fold =
     same_rows (key me.nick) (with_change change) room.users fold
 
 -- What own effects are in any well-formed room in which the user is there, each of some is in its

@@ -13,8 +13,9 @@ use Rattle.irc_modes.specs.declared.modes.ModeChange.{ModeChange}
 use Rattle.irc_room.specs.effect.Target.{Target}
 use Rattle.irc_room.specs.effect.Effect.{Effect}
 use Rattle.irc_room.specs.effect.Effect.TheVariants.{Part, Kick, ChangeModes, SetTopic, Say}
+use Rattle.irc_room.specs.effect.Effect.TheVariants.{ChangeUser}
 use Rattle.irc_room.specs.InTurn.{EachInTurn}
-use Rattle.irc_room.specs.Limits.{IsCarriedText}
+use Rattle.irc_room.specs.Limits.{IsCarriedText, IsChangeWithin}
 use Rattle.irc_room.specs.Room.{Room}
 use Rattle.irc_room.specs.Sendable.{IsSendable, IsSentChange, said_parts}
 use Rattle.irc_acts.specs.declared.act.Act.{Act}
@@ -38,13 +39,15 @@ pub record AreSentWhole (room : Room) (changes : List ModeChange) : Type 0 where
   pub changes_readable : AreReadable changes
   pub words_sent : AllByRecursion (IsSentChange room) changes
 
--- the texts and the changes that an effect carries can be sent
+-- the texts and the changes that an effect carries can be sent, and what a user sets of itself
+-- keeps its limit
 abbrev pub CarriesSendable : Room → Effect → Type 0
 CarriesSendable room (Part nick channel text) = IsCarriedText text
 CarriesSendable room (Kick by channel nick text) = IsCarriedText text
 CarriesSendable room (ChangeModes by channel changes) = AreSentWhole room changes
 CarriesSendable room (SetTopic by channel text) = IsCarriedText text
 CarriesSendable room (Say by notice to text) = IsShortText room by notice to (text.items)
+CarriesSendable room (ChangeUser nick change) = IsChangeWithin change
 CarriesSendable room other = ⊤
 
 abbrev pub CarrySendable : Room → List Act → Type 0

@@ -118,8 +118,8 @@ own_sendable me room effect well mine (changes_modes name changes channel is) ca
   changes_readable = carries.changes_readable;
   words_sent = carries.words_sent;
 }
-own_sendable me room effect well mine (changes_itself change keeps) carries =
-    record { nick_stored = mine; keeps = keeps }
+own_sendable me room effect well mine (changes_itself change) carries =
+    record { nick_stored = mine; keeps = carries }
 
 -- nicknames stay as they are stored
 
@@ -156,7 +156,7 @@ own_keeps_stored me room effect (kicks name by text channel other is member know
     stored
 own_keeps_stored me room effect (invites by name other is named) nick stored = stored
 own_keeps_stored me room effect (changes_modes name changes channel is) nick stored = stored
-own_keeps_stored me room effect (changes_itself change keeps) nick stored =
+own_keeps_stored me room effect (changes_itself change) nick stored =
     nicks_still change room.users (key me.nick) (key nick) ∙ stored
 
 each_sendable : (me : User) (room : Room) (effects : List Effect) → IsWellFormed room

@@ -2,15 +2,15 @@
 use Rattle.std.proofs.Common.{◌≡◌, ℕ, Bool, true, false, not, Option, Some, None, Result, Ok}
 use Rattle.std.proofs.Common.{Err, List, [], ◌∷◌, map, if◌then◌else◌, refl, subst, sym, ◌∙◌, ap}
 use Rattle.std.specs.Prelude.{⊤}
-use Rattle.std.specs.Str.{bytes_eq}
 use Rattle.irc_batch.specs.declared.close_reason.CloseReason.{CloseReason}
 use Rattle.irc_batch.specs.declared.close_reason.CloseReason.TheVariants as reason
-use Rattle.irc_users.specs.declared.user_change.UserChange.TheVariants.{Invisible}
+use Rattle.irc_users.specs.declared.user_change.UserChange.{UserChange}
 use Rattle.irc_room.specs.effect.By.TheVariants as by
 use Rattle.irc_room.specs.effect.Effect.{Effect}
 use Rattle.irc_room.specs.effect.Effect.TheVariants as effect
 use Rattle.irc_merge.specs.Deeds.{does}
-use Rattle.irc_link_words.specs.Words.{is_marked, target_of, unmarked, with_i}
+use Rattle.irc_link_words.specs.UserChanges.{user_change_of}
+use Rattle.irc_link_words.specs.Words.{is_marked, target_of, unmarked}
 use Rattle.irc_link_words.specs.declared.commands.EffectCommand.{EffectCommand}
 use Rattle.irc_link_words.specs.declared.commands.EffectCommand.TheVariants as command
 use Rattle.irc_link_reader.specs.declared.arrival.Arrival.{Arrival}
@@ -19,7 +19,7 @@ use Rattle.irc_link_reader.specs.Loops.Readings.{TellsRow, check_of, first_effec
 use Rattle.irc_link_reader.specs.Loops.Tellings.{done_told, told_found}
 use Rattle.irc_link_reader.specs.Means.{Checked, if_there, invite_line, join_line, kick_line}
 use Rattle.irc_link_reader.specs.Means.{nick_line, part_line, quit_line, say_line}
-use Rattle.irc_link_reader.specs.Means.{user_mode_line}
+use Rattle.irc_link_reader.specs.Means.{change_line, user_mode_line}
 use Rattle.irc_link_reader.specs.Reader.{Reader}
 use Rattle.irc_link_reader.specs.Told.{a_deed, a_doing, first_reason, judged, kept_prefix}
 use Rattle.irc_link_reader.specs.Told.{server_of, told_of, unless_late}
@@ -206,10 +206,12 @@ row_told which given at prefix words read told is user reads done =
 own_plain : (reader : Reader) (name target : List ℕ) (words : List (List ℕ))
     → map a_doing (user_mode_line reader name target words).effects
     ≡ map (told_of (Some name)) (user_mode_line reader name target words).effects
-own_plain reader name target [] = refl
-own_plain reader name target (mode ∷ []) =
-    there_plain (Some name) reader (effect.ChangeUser name (Invisible (bytes_eq mode with_i))) tt
-own_plain reader name target (mode ∷ more ∷ words) = refl
+own_plain reader name target words = by (user_change_of words)
+  where
+    by : (change : Option UserChange) → map a_doing (change_line reader name target change).effects
+        ≡ map (told_of (Some name)) (change_line reader name target change).effects
+    by None = refl
+    by (Some change) = there_plain (Some name) reader (effect.ChangeUser name change) tt
 
 pub own_told : (reader : Reader) (name target : List ℕ) (words : List (List ℕ))
     (read : Result (Option Effect) CloseReason) (told : Result (Option Code) CloseReason)

@@ -46,7 +46,7 @@ use Rattle.irc_names.specs.Fold.{same}
 use Rattle.irc_names.specs.Limits.{max_real_name}
 use Rattle.irc_names.specs.Names.{fits, is_nick, is_channel, is_host, is_server}
 use Rattle.irc_names.specs.Digits.{number_of}
-use Rattle.irc_users.specs.declared.user_change.UserChange.TheVariants.{Invisible}
+use Rattle.irc_users.specs.declared.user_change.UserChange.{UserChange}
 use Rattle.irc_room.specs.effect.By.{By}
 use Rattle.irc_room.specs.effect.By.TheVariants as by
 use Rattle.irc_room.specs.effect.Effect.{Effect}
@@ -61,7 +61,8 @@ use Rattle.irc_link_words.specs.declared.fault.WireFault.TheVariants.{BadToken, 
 use Rattle.irc_link_words.specs.declared.fault.WireFault.TheVariants.{BadName, Memory}
 use Rattle.irc_link_words.specs.Numbers.{is_number}
 use Rattle.irc_link_reader.specs.Reader.{Reader, reader_of, may_come}
-use Rattle.irc_link_words.specs.Words.{is_command, with_i, without_i, is_come_mode, is_marked}
+use Rattle.irc_link_words.specs.UserChanges.{user_change_of}
+use Rattle.irc_link_words.specs.Words.{is_command, with_i, is_come_mode, is_marked}
 use Rattle.irc_link_words.specs.Words.{unmarked, is_for_channel, target_of, are_words, is_user_name}
 use Rattle.irc_link_words.specs.Words.{changes_of, are_changes, are_members_named}
 
@@ -202,16 +203,18 @@ topic_line reader (Some name) (channel ∷ text ∷ []) = of_either reader name 
     (is_channel channel) channel (λ doer. SetTopic doer channel text)
 topic_line reader _ _ = malformed
 
--- a user's mode is changed by itself alone
+-- what a user has set of itself is changed by itself alone
 abbrev pub is_itself_or_none : List ℕ → List ℕ → Bool
 is_itself_or_none nick target = not (is_nick nick && is_nick target) || same nick target
 
+-- a MODE of a user, by the change that its words tell of
+abbrev pub change_line : Reader → List ℕ → List ℕ → Option UserChange → Checked
+change_line reader nick target None = malformed
+change_line reader nick target (Some change) =
+    of_user reader nick (is_itself_or_none nick target) (is_nick target) (ChangeUser nick change)
+
 abbrev pub user_mode_line : Reader → List ℕ → List ℕ → List (List ℕ) → Checked
-user_mode_line reader nick target (mode ∷ []) =
-    of_user reader nick ((bytes_eq mode with_i || bytes_eq mode without_i)
-    && is_itself_or_none nick target) (is_nick target)
-    (ChangeUser nick (Invisible (bytes_eq mode with_i)))
-user_mode_line reader nick target _ = malformed
+user_mode_line reader nick target words = change_line reader nick target (user_change_of words)
 
 abbrev pub mode_line : Reader → Option (List ℕ) → List (List ℕ) → Checked
 mode_line reader (Some name) (target ∷ words) =

@@ -1,19 +1,19 @@
 //! Lines of users (RFC 2813 section 4).
-ghost use Rattle.std.specs.Prelude.{◌≡◌, ◌||◌, None, Some, IsOk, true};
-ghost use Rattle.std.specs.Str.{bytes_eq};
+ghost use Rattle.std.specs.Prelude.{◌≡◌, None, Some, IsOk, true};
 ghost use Rattle.irc_line.specs.MessageViews.{optional_now};
-ghost use Rattle.irc_link_reader.specs.Loops.Readings.{IsNewcomer, IsUserMode, ReadsEffect};
+ghost use Rattle.irc_link_reader.specs.Loops.Readings.{IsNewcomer, IsOwnChange, IsUserMode};
+ghost use Rattle.irc_link_reader.specs.Loops.Readings.{ReadsEffect};
 ghost use Rattle.irc_link_reader.specs.Loops.Readings.{are_right, home_now, home_or_fault};
 ghost use Rattle.irc_link_reader.specs.Loops.Readings.{reader};
 ghost use Rattle.irc_link_reader.specs.Means.{invite_line, is_itself_or_none, nick_line, quit_line};
 ghost use Rattle.irc_link_reader.specs.Means.{say_line};
-ghost use Rattle.irc_link_words.specs.Words.{with_i, without_i};
 
 use crate::arrival::{Arrival, expect_from, if_there, is_distance_of, server};
 use irc_batch::CloseReason;
 use irc_link_words::{
-    Params, is_come_mode, is_real_name, is_user_name, is_with_i, is_without_i, read_channel,
-    read_host, read_line, read_nick, read_number, read_target, read_words, real_name, user_name,
+    Params, is_come_mode, is_real_name, is_user_name, is_with_i, read_channel, read_host,
+    read_line, read_nick, read_number, read_target, read_user_change, read_words, real_name,
+    user_name,
 };
 use irc_names::{ServerName, is_nick, same};
 use irc_room::Effect;
@@ -187,36 +187,37 @@ fn are_right(words: IntroductionWords<'_>) -> bool
     is_user_name(words.user) && is_come_mode(words.mode) && is_real_name(words.real)
 }
 
-/// A user's own mode changes.
+/// A user changes what it has set of itself.
 pub(crate) fn user_mode_line(
     at: Arrival<'_>,
     nick: &[u8],
     target: &[u8],
-    mut params: Params<'_>,
+    params: Params<'_>,
 ) -> Result<Option<Effect>, CloseReason>
     ensures { IsUserMode at.entry nick.now target.now params.entry result }
 {
-    let mode = params.next()?;
-    params.end()?;
-    if !is_user_mode(mode) || !is_itself_or_none(nick, target) {
+    match read_user_change(params.rest()) {
+        Some(change) => change_line(at, nick, target, change),
+        None => Err(CloseReason::Parameters),
+    }
+}
+
+/// The same of a change that was read.
+fn change_line(
+    at: Arrival<'_>,
+    nick: &[u8],
+    target: &[u8],
+    change: UserChange,
+) -> Result<Option<Effect>, CloseReason>
+    ensures { IsOwnChange at.entry nick.now target.now (Some change) result }
+{
+    if !is_itself_or_none(nick, target) {
         return Err(CloseReason::Parameters);
     }
     expect_from(at, nick)?;
     let nick = read_nick(nick)?;
     read_nick(target)?;
-    Ok(if_there(
-        at,
-        Effect::ChangeUser {
-            nick,
-            change: UserChange::Invisible(is_with_i(mode)),
-        },
-    ))
-}
-
-fn is_user_mode(mode: &[u8]) -> bool
-    ensures { result ≡ (bytes_eq mode.now with_i || bytes_eq mode.now without_i) }
-{
-    is_with_i(mode) || is_without_i(mode)
+    Ok(if_there(at, Effect::ChangeUser { nick, change }))
 }
 
 /// Whether these are no two nicknames of different users.

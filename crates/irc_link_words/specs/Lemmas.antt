@@ -1,1 +1,2 @@
 pub mod CommandsNamed
+pub mod UserChangesRead

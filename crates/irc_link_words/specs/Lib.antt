@@ -6,6 +6,7 @@ pub mod WholeLines
 pub mod Faults
 pub mod Numbers
 pub mod Words
+pub mod UserChanges
 pub mod Commands
 pub mod Params
 pub mod Loops

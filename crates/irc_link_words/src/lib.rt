@@ -15,6 +15,7 @@ mod openings;
 mod params;
 mod password;
 mod peers;
+mod user_changes;
 mod words;
 
 pub use changes::read_changes;
@@ -27,10 +28,11 @@ pub use openings::{Greeting, Opening, read_greeting, read_opening, read_password
 pub use params::Params;
 pub use password::{Password, is_password};
 pub use peers::{not_taken, refusal};
+pub use user_changes::{change_letters, change_text, read_user_change};
 pub use words::{
     OPERATOR_MARK, is_come_mode, is_command, is_for_channel, is_marked, is_real_name, is_user_name,
-    is_with_i, is_without_i, read_channel, read_host, read_line, read_nick, read_server,
-    read_target, read_words, real_name, unmarked, user_name,
+    is_with_i, read_channel, read_host, read_line, read_nick, read_server, read_target, read_words,
+    real_name, unmarked, user_name,
 };
 
 /// The version that PASS tells of (RFC 2813 section 4.1.1). It changes with what servers write to

@@ -202,7 +202,7 @@ pub fn is_with_i(word: &[u8]) -> bool
 }
 
 /// Whether a word takes mode i away.
-pub fn is_without_i(word: &[u8]) -> bool
+pub(crate) fn is_without_i(word: &[u8]) -> bool
     ensures { result ≡ bytes_eq word.now without_i }
 {
     word == b"-i".as_slice()

@@ -23,7 +23,6 @@ use Rattle.std.specs.Prelude.{if◌then◌else◌}
 use Rattle.irc_line.specs.Messages.{Written, nobody, named}
 use Rattle.irc_users.specs.declared.user.User.{User}
 use Rattle.irc_users.specs.declared.user_change.UserChange.{UserChange}
-use Rattle.irc_users.specs.declared.user_change.UserChange.TheVariants.{Invisible}
 use Rattle.irc_room.specs.effect.By.{By}
 use Rattle.irc_room.specs.effect.By.TheVariants as by
 use Rattle.irc_room.specs.effect.Effect.{Effect}
@@ -32,7 +31,8 @@ use Rattle.irc_room.specs.effect.Effect.TheVariants.{ChangeModes, SetTopic, Say,
 use Rattle.irc_room.specs.Room.{Room}
 use Rattle.irc_room.specs.Seen.{stored_nick, stored_channel, target_name, changes_words}
 use Rattle.irc_routes.specs.Known.{Known, distance_of, token_out}
-use Rattle.irc_link_words.specs.Words.{with_i, without_i, no_mode, marked}
+use Rattle.irc_link_words.specs.UserChanges.{change_letters, change_text}
+use Rattle.irc_link_words.specs.Words.{with_i, no_mode, marked}
 
 -- a line from a nickname or from a server
 abbrev pub from : List ℕ → List ℕ → List (List ℕ) → Option (List ℕ) → Written
@@ -67,8 +67,8 @@ introduction known user = record {
 
 -- what the user of a nickname changes of itself
 abbrev pub wire_change : List ℕ → UserChange → Written
-wire_change nick (Invisible invisible) =
-    from nick (codes "MODE") (nick ∷ (if invisible then with_i else without_i) ∷ []) None
+wire_change nick change =
+    from nick (codes "MODE") (nick ∷ change_letters change ∷ []) (change_text change)
 
 abbrev pub wire : Room → Known → Effect → Written
 wire room known (AddUser user) = introduction known user

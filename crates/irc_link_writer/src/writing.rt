@@ -9,16 +9,15 @@ ghost use Rattle.irc_room.specs.Effects.{by_nick};
 ghost use Rattle.irc_room.specs.Room.{Room as RoomNow};
 ghost use Rattle.irc_room.specs.Loops.Naming.{row_of, IsNamed};
 ghost use Rattle.irc_link_writer.specs.Loops.Families.{IsOfUsers, introduced, written_invite};
-ghost use Rattle.irc_link_writer.specs.Loops.Families.{written_join, written_kick};
-ghost use Rattle.irc_link_writer.specs.Loops.Families.{written_user_mode};
-ghost use Rattle.irc_link_words.specs.Words.{marked, with_i, without_i};
+ghost use Rattle.irc_link_writer.specs.Loops.Families.{written_join, written_kick, written_own};
+ghost use Rattle.irc_link_words.specs.Words.{marked};
 ghost use Rattle.irc_link_writer.specs.Written.{by_name, from, introduction, next_distance, wire};
 ghost use Rattle.irc_link_writer.specs.Written.{wire_change, written_token};
 
 use crate::mode_line::mode_line;
 use arrayvec::ArrayVec;
 use irc_line::{Parts, Prefix, Text, write_message};
-use irc_link_words::OPERATOR_MARK;
+use irc_link_words::{OPERATOR_MARK, change_letters, change_text};
 use irc_names::{MAX_CHANNEL, ServerName, copied};
 use irc_room::{By, Effect, Named, Room, target_name};
 use irc_routes::Routes;
@@ -196,16 +195,14 @@ fn invite_line<'a>(by: &[u8], nick: &'a [u8], channel: &'a [u8]) -> Text
 fn change_line(nick: &[u8], change: &UserChange) -> Text
     ensures { result.items ≡ text (wire_change nick.now change.now) }
 {
-    match change {
-        UserChange::Invisible(invisible) => user_mode_line(nick, *invisible),
-    }
+    own_line(nick, change_letters(change), change_text(change))
 }
 
-fn user_mode_line(nick: &[u8], invisible: bool) -> Text
-    ensures { result.items ≡ text (written_user_mode nick.now invisible) }
+/// A MODE of a user, which is from itself.
+fn own_line<'a>(nick: &'a [u8], letters: &'a [u8], last: Option<&[u8]>) -> Text
+    ensures { result.items ≡ text (written_own nick.now letters.now (optional_now last.entry)) }
 {
-    let mode: &[u8] = if invisible { b"+i" } else { b"-i" };
-    line(nick, b"MODE", &[nick, mode], None)
+    line(nick, b"MODE", &[nick, letters], last)
 }
 
 /// The line that introduces a user (RFC 2813 section 4.1.3). It takes no memory.

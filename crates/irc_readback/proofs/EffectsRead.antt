@@ -3,7 +3,7 @@ use Rattle.std.proofs.Common.{◌≡◌, ℕ, ◌≤◌, Bool, true, false, not,
 use Rattle.std.proofs.Common.{if◌then◌else◌, Option, Some, None, Ok, List, [], ◌∷◌, codes, length}
 use Rattle.std.proofs.Common.{refl, ◌∙◌, ap, le-leb}
 use Rattle.std.specs.List.{list_all}
-use Rattle.std.specs.Option.{option_map_or, IfSome}
+use Rattle.std.specs.Option.{option_map_or}
 use Rattle.std.proofs.Math.Bool.{or-true}
 use Rattle.std.proofs.lemmas.Bool.{and_from}
 use Rattle.arrayvec.specs.ArrayVec.{ArrayVec}
@@ -13,7 +13,6 @@ use Rattle.irc_names.specs.FoldLaws.{same-tells}
 use Rattle.irc_names.specs.Limits.{max_words}
 use Rattle.irc_names.specs.Names.{IsNick, IsChannel, fits, is_nick, is_channel, is_server}
 use Rattle.irc_users.specs.declared.user_change.UserChange.{UserChange}
-use Rattle.irc_users.specs.declared.user_change.UserChange.TheVariants.{Invisible}
 use Rattle.irc_room.specs.effect.By.TheVariants as by
 use Rattle.irc_room.specs.effect.Effect.{Effect}
 use Rattle.irc_room.specs.effect.Effect.TheVariants.{ChangeModes, Rename, Quit, Join, Part, Kick}
@@ -24,11 +23,13 @@ use Rattle.irc_room.specs.Effects.{needs_users}
 use Rattle.irc_room.specs.Limits.{IsChangeWithin}
 use Rattle.irc_room.specs.Sendable.{target_word}
 use Rattle.irc_link_reader.specs.Means.{first_fault, if_there, of_user, of_either, change_of}
-use Rattle.irc_link_reader.specs.Means.{is_itself_or_none, mode_line, user_mode_line, read_by}
-use Rattle.irc_link_reader.specs.Means.{say_line}
+use Rattle.irc_link_reader.specs.Means.{is_itself_or_none, mode_line, change_line, user_mode_line}
+use Rattle.irc_link_reader.specs.Means.{read_by, say_line}
 use Rattle.irc_readback.specs.ReadBack.{is_user_far}
 use Rattle.irc_link_reader.specs.Reader.{Reader, may_come}
-use Rattle.irc_link_words.specs.Words.{with_i, without_i, marked, is_marked, is_for_channel}
+use Rattle.irc_link_words.specs.Lemmas.UserChangesRead.{are_change_words}
+use Rattle.irc_link_words.specs.UserChanges.{change_words}
+use Rattle.irc_link_words.specs.Words.{marked, is_marked, is_for_channel}
 use Rattle.irc_link_words.specs.Words.{target_of, are_changes, are_members_named, changes_of}
 use Rattle.irc_link_writer.specs.Written.{from, wire_change}
 use Rattle.irc_readback.specs.Lemmas.NameKinds.{nick-no_server, nick-for_user, channel-for_channel}
@@ -170,7 +171,7 @@ topic_read reader nick channel text is named short =
     else if_there reader (SetTopic (by.User nick) channel text)) (nick-no_server nick is.named)
     ∙ there reader (SetTopic (by.User nick) channel text) is.known)
 
--- a user's mode
+-- what a user has set of itself
 itself : (nick : List ℕ) → is_itself_or_none nick nick ≡ true
 itself nick = ap (λ b. not (is_nick nick && is_nick nick) || b) ((same-tells nick nick).1 refl)
     ∙ or-true (not (is_nick nick && is_nick nick))
@@ -183,28 +184,15 @@ for_user reader name nick words named =
     (λ doer. ChangeModes doer nick (changes_of words))
     else user_mode_line reader name nick words) (nick-for_user nick named)
 
-user_mode_read : (reader : Reader) (nick : List ℕ) (invisible : Bool)
-    → IsExpected reader nick (ChangeUser nick (Invisible invisible)) → read_by reader (message_of
-    (from nick (codes "MODE") (nick ∷ (if invisible then with_i else without_i) ∷ []) None))
-    ≡ Ok (ChangeUser nick (Invisible invisible) ∷ [])
-user_mode_read reader nick true is =
-    ap first_fault (for_user reader nick nick (with_i ∷ []) is.named)
-    ∙ user_read reader nick (is_itself_or_none nick nick) (is_nick nick)
-    (ChangeUser nick (Invisible true)) is (itself nick) is.named
-user_mode_read reader nick false is =
-    ap first_fault (for_user reader nick nick (without_i ∷ []) is.named)
-    ∙ user_read reader nick (is_itself_or_none nick nick) (is_nick nick)
-    (ChangeUser nick (Invisible false)) is (itself nick) is.named
-
--- the line of what a user changes of itself comes from it, and is read as that
-pub change_from : (P : List ℕ → Type 0) (nick : List ℕ) (change : UserChange)
-    → IfSome (message_of (wire_change nick change)).prefix P → P nick
-change_from P nick (Invisible invisible) so = so
-
 pub change_read : (reader : Reader) (nick : List ℕ) (change : UserChange)
     → IsExpected reader nick (ChangeUser nick change) → IsChangeWithin change
     → read_by reader (message_of (wire_change nick change)) ≡ Ok (ChangeUser nick change ∷ [])
-change_read reader nick (Invisible invisible) is keeps = user_mode_read reader nick invisible is
+change_read reader nick change is keeps =
+    ap first_fault (for_user reader nick nick (change_words change) is.named)
+    ∙ ap (λ told. first_fault (change_line reader nick nick told))
+    (are_change_words change keeps).read_again
+    ∙ user_read reader nick (is_itself_or_none nick nick) (is_nick nick)
+    (ChangeUser nick change) is (itself nick) is.named
 
 -- a text, for a user or for a channel
 pub text_read : (reader : Reader) (nick : List ℕ) (notice : Bool) (to : Target) (text : ArrayVec ℕ)

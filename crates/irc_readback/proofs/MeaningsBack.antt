@@ -28,7 +28,7 @@ use Rattle.irc_link_writer.specs.Written.{from, wire, wire_change}
 use Rattle.irc_readback.proofs.EffectsRead.{IsExpected, IsTarget, invite_read, join_read, kick_read}
 use Rattle.irc_readback.proofs.EffectsRead.{part_read, quit_read, rename_read, text_read}
 use Rattle.irc_readback.proofs.EffectsRead.{topic_read}
-use Rattle.irc_readback.proofs.EffectsRead.{change_read, change_from}
+use Rattle.irc_readback.proofs.EffectsRead.{change_read}
 use Rattle.irc_readback.specs.Lemmas.StoredNames.{IsKeptAs, nick_kept, channel_kept, channel_there}
 
 -- whom the line is from, as stored
@@ -168,6 +168,5 @@ meant_back room known reader (ChangeUser nick change) plain is =
     let doer = nick_kept room nick is.room_within is.sendable.nick_stored in
     ap (λ n. read_by reader (message_of (wire_change n change))) doer.as_is
     ∙ change_read reader nick change
-    (expected room known reader (ChangeUser nick change) nick is doer
-    (change_from (λ n. is_user_far reader n ≡ true) (stored_nick room nick) change is.doer_far))
+    (expected room known reader (ChangeUser nick change) nick is doer is.doer_far)
     is.sendable.keeps

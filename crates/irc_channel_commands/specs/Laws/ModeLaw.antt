@@ -217,7 +217,7 @@ pub mode_is_own : ModeIsOwn
 mode_is_own me room name words = mode_so (IsOwn me) me room name words (record {
   changes_it =
       λ channel is operator some. own.changes_modes name (changed_by room channel words) channel is;
-  sets_own = λ invisible apart. own.changes_itself (Invisible invisible) tt;
+  sets_own = λ invisible apart. own.changes_itself (Invisible invisible);
 })
 
 pub mode_is_sendable : ModeIsSendable

@@ -15,10 +15,9 @@ use Rattle.irc_line.specs.Messages.{message_of}
 use Rattle.irc_names.specs.Fold.{key}
 use Rattle.irc_names.specs.Tables.{row}
 use Rattle.irc_users.specs.declared.user.User.{User}
-use Rattle.irc_users.specs.declared.user_change.UserChange.TheVariants.{Invisible}
 use Rattle.irc_room.specs.effect.By.TheVariants as by
 use Rattle.irc_room.specs.effect.Effect.{Effect}
-use Rattle.irc_room.specs.effect.Effect.TheVariants.{AddUser, ChangeModes, SetTopic, ChangeUser}
+use Rattle.irc_room.specs.effect.Effect.TheVariants.{AddUser, ChangeModes, SetTopic}
 use Rattle.irc_room.specs.Effects.{has_user, needs_users, doer_of}
 use Rattle.irc_room.specs.OtherInvitations.{AreAlike}
 use Rattle.irc_room.specs.Readers.{home_under}
@@ -69,7 +68,6 @@ from_doer : (room : Room) (known : Known) (effect : Effect) → IsSendable room 
     → (message_of (wire room known effect)).prefix ≡ option_map (stored_nick room) (doer_of effect)
 from_doer room known (ChangeModes by.Home channel changes) sent = absurd sent
 from_doer room known (SetTopic by.Home channel text) sent = absurd sent
-from_doer room known (ChangeUser nick (Invisible invisible)) sent = refl
 from_doer room known other sent = refl
 
 -- ---- a number stands for one server

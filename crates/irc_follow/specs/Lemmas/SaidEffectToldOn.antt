@@ -15,11 +15,10 @@ use Rattle.irc_names.specs.Fold.{key}
 use Rattle.irc_names.specs.Fold as folded
 use Rattle.irc_names.specs.Tables.{row}
 use Rattle.irc_users.specs.declared.user.User.{User}
-use Rattle.irc_users.specs.declared.user_change.UserChange.TheVariants.{Invisible}
 use Rattle.irc_room.specs.effect.By.TheVariants as by
 use Rattle.irc_room.specs.effect.Effect.{Effect}
 use Rattle.irc_room.specs.effect.Effect.TheVariants.{AddUser, Rename, ChangeModes, SetTopic, Say}
-use Rattle.irc_room.specs.effect.Effect.TheVariants.{Invite, ChangeUser}
+use Rattle.irc_room.specs.effect.Effect.TheVariants.{Invite}
 use Rattle.irc_room.specs.effect.Target.TheVariants as target
 use Rattle.irc_room.specs.Effects.{brings_free, has_user, is_member}
 use Rattle.irc_room.specs.OtherInvitations.{AreAlike}
@@ -91,7 +90,6 @@ pub no_row : (room : Room) (known : Known) (effect : Effect)
     → of_deeds.burst_row_of (message_of (wire room known effect)).command ≡ None
 no_row room known (Say by true to text) = refl
 no_row room known (Say by false to text) = refl
-no_row room known (ChangeUser nick (Invisible invisible)) = refl
 no_row room known effect = refl
 
 -- no server does it

@@ -12,6 +12,7 @@ use Rattle.irc_names.specs.Names.{fits, is_channel, is_nick, is_server}
 use Rattle.irc_tables.specs.declared.table.Row.{Row as TableRow}
 use Rattle.irc_channels.specs.declared.flags.Flags.{Flags}
 use Rattle.irc_modes.specs.declared.modes.ModeChange.{ModeChange}
+use Rattle.irc_users.specs.declared.user_change.UserChange.{UserChange}
 use Rattle.irc_room.specs.effect.By.TheVariants as by
 use Rattle.irc_room.specs.effect.Effect.{Effect}
 use Rattle.irc_room.specs.effect.Effect.TheVariants.{ChangeModes, SetTopic}
@@ -32,7 +33,7 @@ use Rattle.irc_link_reader.specs.Reader.{Reader, reader_of}
 use Rattle.irc_link_reader.specs.Means.{Checked, LinkCommandRow, line, if_there, home_of_token}
 use Rattle.irc_link_reader.specs.Means.{introduction_line, nick_line, of_either, quit_line}
 use Rattle.irc_link_reader.specs.Means.{join_line, part_line, kick_line, mode_line, topic_line}
-use Rattle.irc_link_reader.specs.Means.{say_line, invite_line, user_mode_line}
+use Rattle.irc_link_reader.specs.Means.{say_line, invite_line, change_line, user_mode_line}
 use Rattle.irc_link_reader.specs.Told.{Told, a_deed, a_doing, first_reason, judged}
 use Rattle.irc_link_reader.specs.Loops.Tellings.{GivesTold, effects_of}
 
@@ -76,6 +77,12 @@ abbrev pub IsUserMode : Arrival → List ℕ → List ℕ → List (List ℕ)
     → Result (Option Effect) CloseReason → Type 0
 IsUserMode at nick target words result =
     found result ≡ first_effect (user_mode_line (reader at) nick target words)
+
+-- the same of one whose words tell of a change, or of none
+abbrev pub IsOwnChange : Arrival → List ℕ → List ℕ → Option UserChange
+    → Result (Option Effect) CloseReason → Type 0
+IsOwnChange at nick target change result =
+    found result ≡ first_effect (change_line (reader at) nick target change)
 
 -- what is looked at in a line of each command
 abbrev pub check_of : EffectCommand → Reader → Option (List ℕ) → List (List ℕ) → Checked

@@ -1,5 +1,6 @@
 -- The lines that are written for each kind of effect.
-use Rattle.std.specs.Prelude.{ℕ, Bool, ⊤, Some, None, List, [], ◌∷◌, ◌++◌, codes, if◌then◌else◌}
+use Rattle.std.specs.Prelude.{ℕ, Bool, ⊤, Option, Some, None, List, [], ◌∷◌, ◌++◌, codes}
+use Rattle.std.specs.Prelude.{if◌then◌else◌}
 use Rattle.irc_line.specs.Messages.{Written, nobody}
 use Rattle.irc_users.specs.declared.user.User.{User}
 use Rattle.irc_room.specs.effect.Effect.{Effect}
@@ -7,7 +8,7 @@ use Rattle.irc_room.specs.effect.Effect.TheVariants.{AddUser, Rename, Quit, Say,
 use Rattle.irc_room.specs.Room.{Room}
 use Rattle.irc_room.specs.Seen.{changes_words}
 use Rattle.irc_modes.specs.declared.modes.ModeChange.{ModeChange}
-use Rattle.irc_link_words.specs.Words.{with_i, without_i, no_mode, marked}
+use Rattle.irc_link_words.specs.Words.{with_i, no_mode, marked}
 use Rattle.irc_link_writer.specs.Written.{from}
 
 -- an effect on users alone, a text or an invitation
@@ -34,7 +35,7 @@ introduced user distance token = record {
 abbrev pub head_text : List ℕ → List ℕ → List ℕ → List ℕ
 head_text name command channel = codes ":" ++ name ++ command ++ channel ++ codes " "
 
--- ---- the lines of a channel, of an invitation and of a user's mode
+-- ---- the lines of a channel, of an invitation and of what a user changes of itself
 
 abbrev pub written_modes : Room → List ℕ → List ℕ → List ModeChange → Written
 written_modes room name channel changes =
@@ -50,6 +51,5 @@ written_kick by channel nick text =
 abbrev pub written_invite : List ℕ → List ℕ → List ℕ → Written
 written_invite by nick channel = from by (codes "INVITE") (nick ∷ channel ∷ []) None
 
-abbrev pub written_user_mode : List ℕ → Bool → Written
-written_user_mode nick invisible =
-    from nick (codes "MODE") (nick ∷ (if invisible then with_i else without_i) ∷ []) None
+abbrev pub written_own : List ℕ → List ℕ → Option (List ℕ) → Written
+written_own nick letters last = from nick (codes "MODE") (nick ∷ letters ∷ []) last

@@ -9,7 +9,6 @@ use Rattle.std.proofs.lemmas.List.Folds.{list_all-append}
 use Rattle.irc_line.specs.Carried.{is_carried, is_carried_byte, AreCarriedParts, IsCarried}
 use Rattle.irc_users.specs.declared.user.User.{User}
 use Rattle.irc_users.specs.declared.user_change.UserChange.{UserChange}
-use Rattle.irc_users.specs.declared.user_change.UserChange.TheVariants.{Invisible}
 use Rattle.irc_modes.specs.declared.modes.ModeChange.{ModeChange}
 use Rattle.irc_room.specs.effect.By.TheVariants as by
 use Rattle.irc_room.specs.effect.Effect.{Effect}
@@ -27,7 +26,9 @@ use Rattle.irc_room.specs.Sendable.{IsSentWord, IsStoredNick}
 use Rattle.irc_routes.specs.Known.{Known}
 use Rattle.irc_readback.specs.ReadBack.{IsPlainEffect}
 use Rattle.irc_readback.specs.WholeLines.{IsTellable, IsToldUser, ToldIsCarried}
-use Rattle.irc_link_words.specs.Words.{marked, no_mode, op_mark, with_i, without_i}
+use Rattle.irc_link_words.specs.Lemmas.UserChangesRead.{are_change_words}
+use Rattle.irc_link_words.specs.UserChanges.{change_letters, change_text}
+use Rattle.irc_link_words.specs.Words.{marked, no_mode, op_mark, with_i}
 use Rattle.irc_link_writer.specs.Written.{from, introduction, next_distance, wire, wire_change}
 use Rattle.irc_link_writer.specs.Written.{written_token}
 use Rattle.irc_readback.specs.Lemmas.ModeWords.{digits_carried, letters_carried}
@@ -97,10 +98,6 @@ module _ (names : NamesAreLineWords) (room : Room) (within : IsWithinLimits room
   mode_carried true = refl
   mode_carried false = refl
 
-  own_mode_carried : (invisible : Bool) → IsCarried (if invisible then with_i else without_i)
-  own_mode_carried true = refl
-  own_mode_carried false = refl
-
   user_carried : (known : Known) (user : User) → IsToldUser known user
       → AreCarriedParts (introduction known user)
   user_carried known user told = record {
@@ -138,9 +135,10 @@ module _ (names : NamesAreLineWords) (room : Room) (within : IsWithinLimits room
 
   change_carried : (nick : List ℕ) (change : UserChange) → IsCarried nick → IsChangeWithin change
       → AreCarriedParts (wire_change nick change)
-  change_carried nick (Invisible invisible) named keeps =
-      from_carried nick (codes "MODE") (nick ∷ (if invisible then with_i else without_i) ∷ []) None
-      named refl (λ e. cc e) (named, (own_mode_carried invisible, tt)) refl
+  change_carried nick change named keeps =
+      let words = are_change_words change keeps in
+      from_carried nick (codes "MODE") (nick ∷ change_letters change ∷ []) (change_text change)
+      named refl (λ e. cc e) (named, (words.letters_carried, tt)) words.text_carried
 
   pub told_carried : (known : Known) (effect : Effect) → IsTellable room known effect
       → AreCarriedParts (wire room known effect)

@@ -2,7 +2,7 @@
 use Rattle.std.proofs.Common.{◌≡◌, ◌≢◌, ◌+◌, ◌≤◌, ℕ, Bool, true, false, not, ◌&&◌, ◌||◌, Option}
 use Rattle.std.proofs.Common.{Some, None, unwrap_or, Ok, List, [], ◌∷◌, ◌++◌, codes, length}
 use Rattle.std.proofs.Common.{if◌then◌else◌, option_to_list, option_map, subst, refl, sym, ◌∙◌, ap}
-use Rattle.std.proofs.Common.{arith, length-append, lit≤, IfSome}
+use Rattle.std.proofs.Common.{suc, arith, length-append, lit≤, IfSome}
 use Rattle.std.specs.List.{list_all, AllByRecursion}
 use Rattle.std.specs.Option.{option_map_or}
 use Rattle.std.proofs.lemmas.Bool.Decides.{nat_tests}
@@ -13,15 +13,14 @@ use Rattle.irc_line.specs.Carried.{is_carried, IsCarried}
 use Rattle.irc_line.specs.Laws.{IsReadSoAlone, WrittenIsLine, WrittenIsRead}
 use Rattle.irc_line.specs.Limits.{max_parameters}
 use Rattle.irc_line.specs.Messages.{IsPlain, IsPlainWord, Written, joined_text, line_text}
-use Rattle.irc_line.specs.Messages.{message_of, middle_text, prefix_text}
+use Rattle.irc_line.specs.Messages.{last_text, message_of, middle_text, prefix_text}
 use Rattle.irc_line.specs.Reading.{read_of}
 use Rattle.irc_names.specs.Fold.{key}
-use Rattle.irc_names.specs.Limits.{max_nick, max_channel}
+use Rattle.irc_names.specs.Limits.{max_nick, max_channel, max_words}
 use Rattle.irc_names.specs.Names.{IsNick, IsChannel, is_nick, is_channel}
 use Rattle.irc_names.specs.Tables.{row}
 use Rattle.irc_users.specs.declared.user.User.{User}
 use Rattle.irc_users.specs.declared.user_change.UserChange.{UserChange}
-use Rattle.irc_users.specs.declared.user_change.UserChange.TheVariants.{Invisible}
 use Rattle.irc_room.specs.effect.By.TheVariants as by
 use Rattle.irc_room.specs.effect.Effect.{Effect}
 use Rattle.irc_room.specs.effect.Effect.TheVariants.{AddUser, Rename, Quit, Join, Part, Kick}
@@ -32,11 +31,13 @@ use Rattle.irc_room.specs.Laws.{IsWhole, NamedIsWholeToo, NamesAreLineWords, Sen
 use Rattle.irc_room.specs.Limits.{IsChangeWithin, IsWithinLimits}
 use Rattle.irc_room.specs.Room.{Room}
 use Rattle.irc_room.specs.Seen.{full_sender, from_nick, parts_of, stored_nick, stored_channel}
-use Rattle.irc_room.specs.Seen.{change_parts, target_name}
+use Rattle.irc_room.specs.Seen.{target_name}
 use Rattle.irc_room.specs.Sendable.{IsChannelOrNew, IsSendable, IsStoredNick, IsSentTarget}
 use Rattle.irc_routes.specs.Known.{Known}
 use Rattle.irc_readback.specs.ReadBack.{IsPlainEffect}
-use Rattle.irc_link_words.specs.Words.{op_mark, marked, with_i, without_i}
+use Rattle.irc_link_words.specs.Lemmas.UserChangesRead.{are_change_words}
+use Rattle.irc_link_words.specs.UserChanges.{change_letters, change_text}
+use Rattle.irc_link_words.specs.Words.{op_mark, marked}
 use Rattle.irc_link_writer.specs.Written.{from, wire, wire_change}
 use Rattle.irc_readback.specs.Lemmas.StoredNames.{nick_kept, channel_kept, channel_there}
 
@@ -122,15 +123,19 @@ say_plain : (notice : Bool) → IsPlainWord (if notice then codes "NOTICE" else 
 say_plain true = command_plain _ _ refl refl refl
 say_plain false = command_plain _ _ refl refl refl
 
-mode_plain : (invisible : Bool) → IsPlainWord (if invisible then with_i else without_i)
-mode_plain true = command_plain _ _ refl refl refl
-mode_plain false = command_plain _ _ refl refl refl
-
 change_plain : (nick : List ℕ) (change : UserChange) → IsPlainWord nick → IsChangeWithin change
     → IsPlain (wire_change nick change)
-change_plain nick (Invisible invisible) named keeps =
-    from_plain nick (codes "MODE") (nick ∷ (if invisible then with_i else without_i) ∷ []) None
-    named (command_plain _ _ refl refl refl) (named, (mode_plain invisible, tt)) refl (lit≤ tt)
+change_plain nick change named keeps =
+    let words = are_change_words change keeps in
+    from_plain nick (codes "MODE") (nick ∷ change_letters change ∷ []) (change_text change)
+    named (command_plain _ _ refl refl refl) (named, (words.letters_plain, tt))
+    (carried_no_nul (unwrap_or (change_text change) []) words.text_carried)
+    (few nick (change_letters change) (change_text change))
+  where
+    few : (one two : List ℕ) (last : Option (List ℕ))
+        → length (one ∷ two ∷ option_to_list last) ≤ max_parameters
+    few one two None = lit≤ tt
+    few one two (Some last) = lit≤ tt
 
 wire_plain : NamesAreLineWords → (room : Room) (known : Known) (effect : Effect)
     → IsPlainEffect effect → IsWithinLimits room → IsSendable room effect
@@ -262,15 +267,35 @@ join_whole name channel op short fits =
     (middle_text (word ∷ [])) []) (named_length name) (word_length word)
     short (marked_short channel op fits)
 
--- What a client is shown of a change has more in front of it than what is written. A change that is
--- shown to nobody is as long as its limits let it be.
-change_whole : NamedIsWholeToo → (room : Room) (nick : List ℕ) (change : UserChange)
-    → IsStoredNick room nick → IsChangeWithin change
-    → IfSome (change_parts (stored_nick room nick) change (from_nick room nick)) IsWhole
-    → IsWhole (wire_change (stored_nick room nick) change)
-change_whole shorter room nick (Invisible invisible) stored keeps fits =
-    by_nickname shorter room nick (codes "MODE")
-    (stored_nick room nick ∷ (if invisible then with_i else without_i) ∷ []) None stored fits
+-- what a user changes of itself is as long as its limits let it be, whether a client is shown it or
+-- not
+
+last_length : (last : Option (List ℕ)) → length (last_text last) ≤ length (unwrap_or last []) + 2
+last_length None = lit≤ tt
+last_length (Some last) = omega arith
+
+change_size : (all prefix middle behind last nick letters text : ℕ)
+    → all ≡ prefix + (4 + (middle + last)) → prefix ≡ nick + 2 → middle ≡ suc (nick + behind)
+    → behind ≡ letters + 1 → last ≤ text + 2 → nick ≤ max_nick → letters ≤ 2 → text ≤ max_words
+    → all ≤ 510
+change_size all prefix middle behind last nick letters text all_is prefix_is middle_is behind_is
+    last_is nick_short letters_short text_short =
+    omega arith
+
+change_whole : (nick : List ℕ) (change : UserChange) → length nick ≤ max_nick
+    → IsChangeWithin change → IsWhole (wire_change nick change)
+change_whole nick change short keeps =
+    let words = are_change_words change keeps in
+    let letters = change_letters change in
+    let last = change_text change in
+    let middle = nick ∷ letters ∷ [] in
+    change_size (length (joined_text (from nick (codes "MODE") middle last)))
+    (length (prefix_text (Some nick))) (length (middle_text middle))
+    (length (middle_text (letters ∷ []))) (length (last_text last)) (length nick) (length letters)
+    (length (unwrap_or last []))
+    (four_lengths (prefix_text (Some nick)) (codes "MODE") (middle_text middle) (last_text last))
+    (named_length nick) (ap suc (length-append nick (middle_text (letters ∷ []))))
+    (word_length letters) (last_length last) short words.letters_short words.text_short
 
 pub wire_whole : SentFitsItsLine → NamedIsWholeToo → (room : Room) (known : Known) (effect : Effect)
     → IsPlainEffect effect → IsWithinLimits room → IsSendable room effect
@@ -312,8 +337,9 @@ wire_whole shown shorter room known (Invite by nick channel) plain within sent =
     (stored_nick room nick ∷ stored_channel room channel ∷ []) None sent.by_stored
     (shown room (Invite by nick channel) viewer within sent)
 wire_whole shown shorter room known (ChangeUser nick change) plain within sent =
-    change_whole shorter room nick change sent.nick_stored sent.keeps
-    (shown room (ChangeUser nick change) viewer within sent)
+    let doer = nick_kept room nick within sent.nick_stored in
+    change_whole (stored_nick room nick) change
+    (subst (λ n. length n ≤ max_nick) (sym doer.as_is) (nick_short nick doer.kept)) sent.keeps
 
 -- ---- what is written, and was not cut, is read again
 
