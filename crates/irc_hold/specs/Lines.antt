@@ -1,7 +1,8 @@
 -- What becomes of a line of a client that is no user yet (IRCv3, "Capability Negotiation": where a
 -- client negotiates, its registration is not complete before CAP END). It negotiates once it has
--- asked for a capability by CAP REQ. Behind CAP LS nothing waits, where IRCv3 has it wait: the list is
--- empty, and there are programs in use (Konversation 22.12) that send no END behind an empty one.
+-- asked for a capability by CAP REQ. Behind CAP LS nothing waits, where IRCv3 has it wait: the list
+-- is empty, and there are programs in use (Konversation 22.12) that send no END behind an empty
+-- one.
 --   CAP REQ :sasl      the machine is given it, and from then on USER is held
 --   NICK al            the machine is given it
 --   USER u 0 * :Al     it is kept
