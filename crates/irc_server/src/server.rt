@@ -74,7 +74,7 @@ fn taken(state: &mut State) -> Result<Stage, AllocError>
     ensures running { (stage : View) → state.old ≡ Running stage → result ≡ Ok stage }
 {
     match mem::replace(state, State::Failed) {
-        State::First(first) => first.keep(),
+        State::First(first) => first.boxed(),
         State::Running(stage) => Ok(stage),
         State::Failed => Err(AllocError),
     }
