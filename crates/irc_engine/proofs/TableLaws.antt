@@ -1,12 +1,11 @@
 -- The code's table of connections, as what it answers at each number.
 use Rattle.std.proofs.Common.{◌≡◌, ℕ, zero, suc, ◌+◌, ◌<◌, Bool, true, false, cond, nat_eq, Option}
-use Rattle.std.proofs.Common.{Some, None, IsSome, is_some, Result, Ok, List, [], ◌∷◌, length}
+use Rattle.std.proofs.Common.{Some, None, is_some, Result, Ok, List, [], ◌∷◌, length}
 use Rattle.std.proofs.Common.{slice_set, count_by, ◌≤◌, get_or, refl, sym, ◌∙◌, ap, subst, arith}
 use Rattle.std.specs.Ordering.{nat_cmp, is_eq}
 use Rattle.std.specs.Cmp.{nat_cmp_total, eq_by_cmp_equiv, Equal-is}
 use Rattle.std.specs.FinMap.{nat_cmp-IsAntisymmetric}
 use Rattle.std.specs.List.{slice_get}
-use Rattle.std.specs.HashMap.{get, get_by, hash_map_len, UpdatesBy}
 use Rattle.std.proofs.lemmas.Bool.{eq-eqb, eqb-true}
 use Rattle.std.proofs.lemmas.List.Sums.{sum_by-cons}
 use Rattle.std.proofs.lemmas.Option.{slice_get_within}
@@ -66,42 +65,20 @@ slot_set : {X : Type 0} (xs : List X) (i q : ℕ) (x : X) → i < length xs
 slot_set xs i q x within = at_place (slice_get (slice_set xs i x)) (slice_get xs) i (Some x)
     (set_here xs i x within) (λ q apart. set_there xs i q x apart) q
 
--- what is there at a number is changed, where it is one of the dense ones
-slot_changed : (old new : ConnectionTable) (conn : ℕ) (slot : Option Connection)
-    → ((q : ℕ) → slice_get new.dense.items q ≡ cond (nat_eq conn q)
-    (Some slot) (slice_get old.dense.items q)) → new.sparse ≡ old.sparse
+-- what is in a place is another
+pub place_set : (old new : ConnectionTable) (conn : ℕ) (slot : Option Connection)
+    → conn < length old.slots.items → new.slots.items ≡ slice_set old.slots.items conn slot
     → IsSet (connection_of old) conn slot (connection_of new)
-slot_changed old new conn slot dense sparse q =
-    ap (λ f. connection_at (slice_get new.dense.items q) (get nat_eq f q)) sparse
-    ∙ ap (λ s. connection_at s (get nat_eq old.sparse q)) (dense q) ∙ by (nat_eq conn q)
+place_set old new conn slot within slots q =
+    ap (λ xs. connection_at (slice_get xs q)) slots
+    ∙ ap connection_at (slot_set old.slots.items conn q slot within) ∙ by (nat_eq conn q)
   where
-    by : (t : Bool) → connection_at (cond t (Some slot) (slice_get old.dense.items q))
-        (get nat_eq old.sparse q) ≡ cond t slot (connection_of old q)
+    by : (t : Bool) → connection_at (cond t (Some slot) (slice_get old.slots.items q))
+        ≡ cond t slot (connection_of old q)
     by true = refl
     by false = refl
 
-pub dense_set : (old new : ConnectionTable) (conn : ℕ) (slot : Option Connection)
-    → conn < length old.dense.items → new.dense.items ≡ slice_set old.dense.items conn slot
-    → new.sparse ≡ old.sparse → IsSet (connection_of old) conn slot (connection_of new)
-dense_set old new conn slot within dense sparse = slot_changed old new conn slot
-    (λ q. ap (λ xs. slice_get xs q) dense ∙ slot_set old.dense.items conn q slot within) sparse
-
--- and where it is another
-pub sparse_set : (old new : ConnectionTable) (conn : ℕ) (slot : Option Connection)
-    → None ≡ slice_get old.dense.items conn → new.dense.items ≡ old.dense.items
-    → ((q : ℕ) → get nat_eq new.sparse q ≡ cond (nat_eq conn q) slot (get nat_eq old.sparse q))
-    → IsSet (connection_of old) conn slot (connection_of new)
-sparse_set old new conn slot behind dense sparse q =
-    ap (λ xs. connection_at (slice_get xs q) (get nat_eq new.sparse q)) dense
-    ∙ ap (connection_at (slice_get old.dense.items q)) (sparse q) ∙ by (nat_eq conn q) refl
-  where
-    by : (t : Bool) → nat_eq conn q ≡ t → connection_at (slice_get old.dense.items q)
-        (cond t slot (get nat_eq old.sparse q)) ≡ cond t slot (connection_of old q)
-    by true is = sym (ap (λ s. connection_at s slot)
-        (subst (λ n. None ≡ slice_get old.dense.items n) (eqb-true conn q is) behind))
-    by false is = refl
-
--- how many are dense, once one of them has changed
+-- how many there are, once one place has changed
 count_cons : (slot : Option Connection) (xs : List (Option Connection))
     → count_by is_some (slot ∷ xs) ≡ cond (is_some slot) 1 0 + count_by is_some xs
 count_cons slot xs = sum_by-cons (λ s. cond (is_some s) 1 0) slot xs
@@ -112,7 +89,7 @@ slots_counted : (xs : List (Option Connection)) (i : ℕ) (slot was : Option Con
 slots_counted [] i slot was is = cc is
 slots_counted (x ∷ xs) zero slot was is =
     let same : cond (is_some x) 1 0 ≡ cond (is_some was) 1 0 =
-    ap {B = ℕ} (λ s. cond (is_some (connection_at s None)) 1 0) is in
+    ap {B = ℕ} (λ s. cond (is_some (connection_at s)) 1 0) is in
     omega (arith, count_cons slot xs, count_cons x xs, same)
 slots_counted (x ∷ xs) (suc i) slot was is =
     omega (
@@ -137,18 +114,17 @@ no_slot (y ∷ xs) (suc i) behind = no_slot xs i (omega (arith, behind))
 -- a change of one connection, or none where it is not there
 module _ (conn : ℕ) (P : Connection → Connection → Type 0) (Q : Type 0)
     (old new : ConnectionTable) where
-  pub dense_through : (slot now : Option Connection) → Some slot ≡ slice_get old.dense.items conn
-      → new.dense.items ≡ slice_set old.dense.items conn now → new.sparse ≡ old.sparse
-      → Within P Q slot now → Through conn P Q old new
-  dense_through slot now was dense sparse within = by within
+  pub place_through : (slot now : Option Connection) → Some slot ≡ slice_get old.slots.items conn
+      → new.slots.items ≡ slice_set old.slots.items conn now → Within P Q slot now
+      → Through conn P Q old new
+  place_through slot now was slots within = by within
     where
       is : connection_of old conn ≡ slot
-      is = sym (ap (λ s. connection_at s (get nat_eq old.sparse conn)) was)
+      is = sym (ap connection_at was)
 
       set : IsSet (connection_of old) conn now (connection_of new)
-      set =
-          dense_set old new conn now
-          (slice_get_within old.dense.items conn slot (sym was)) dense sparse
+      set = place_set old new conn now
+          (slice_get_within old.slots.items conn slot (sym was)) slots
 
       same : now ≡ None → connection_of old conn ≡ None → (q : ℕ) (t : Bool) → nat_eq conn q ≡ t
           → cond t now (connection_of old q) ≡ connection_of old q
@@ -161,22 +137,10 @@ module _ (conn : ℕ) (P : Connection → Connection → Type 0) (Q : Type 0)
       by (in_none here there so) =
           no_connection (is ∙ here) (λ q. set q ∙ same there (is ∙ here) q (nat_eq conn q) refl) so
 
-  pub sparse_through : (connection now : Connection)
-      → None ≡ slice_get old.dense.items conn → Some connection ≡ get nat_eq old.sparse conn
-      → new.dense.items ≡ old.dense.items → (IsSome (get_by (nat_eq conn) old.sparse)
-      → UpdatesBy nat_eq (nat_eq conn) old.sparse new.sparse (Some now)) → P connection now
+  pub no_place : None ≡ slice_get old.slots.items conn → new.slots.items ≡ old.slots.items → Q
       → Through conn P Q old new
-  sparse_through connection now behind is dense updates so =
-      at_connection connection now
-      (sym (ap (λ s. connection_at s (get nat_eq old.sparse conn)) behind) ∙ sym is)
-      (sparse_set old new conn (Some now) behind dense (updates (sym (ap is_some is))).0) so
-
-  pub sparse_absent : None ≡ slice_get old.dense.items conn → None ≡ get nat_eq old.sparse conn
-      → new.dense.items ≡ old.dense.items → new.sparse ≡ old.sparse → Q → Through conn P Q old new
-  sparse_absent behind none dense sparse so =
-      no_connection (sym (ap (λ s. connection_at s (get nat_eq old.sparse conn)) behind) ∙ sym none)
-      (λ q. ap (λ xs. connection_at (slice_get xs q) (get nat_eq new.sparse q)) dense
-      ∙ ap (λ f. connection_at (slice_get old.dense.items q) (get nat_eq f q)) sparse) so
+  no_place none same so = no_connection (sym (ap connection_at none))
+      (λ q. ap (λ xs. connection_at (slice_get xs q)) same) so
 
 -- how many there are then
 kept_some : {P : Connection → Connection → Type 0} {Q : Type 0} (slot now : Option Connection)
@@ -186,43 +150,47 @@ kept_some slot now (in_connection connection changed here there so) =
 kept_some slot now (in_none here there so) = ap is_some there ∙ sym (ap is_some here)
 
 module _ (old new : ConnectionTable) (conn : ℕ) where
-  pub dense_kept : {P : Connection → Connection → Type 0} {Q : Type 0}
-      (slot now : Option Connection) → Some slot ≡ slice_get old.dense.items conn
-      → new.dense.items ≡ slice_set old.dense.items conn now → new.sparse ≡ old.sparse
-      → Within P Q slot now → connection_count new ≡ connection_count old
-  dense_kept slot now is dense sparse within =
+  pub place_kept : {P : Connection → Connection → Type 0} {Q : Type 0}
+      (slot now : Option Connection) → Some slot ≡ slice_get old.slots.items conn
+      → new.slots.items ≡ slice_set old.slots.items conn now → Within P Q slot now
+      → connection_count new ≡ connection_count old
+  place_kept slot now is slots within =
       omega (
         arith,
-        slots_counted old.dense.items conn now slot (sym is),
-        ap (count_by is_some) dense,
-        ap hash_map_len sparse,
+        slots_counted old.slots.items conn now slot (sym is),
+        ap (count_by is_some) slots,
         ap {B = ℕ} (λ t. cond t 1 0) (kept_some slot now within),
       )
 
-  pub dense_removed : (slot : Option Connection) → Some slot ≡ slice_get old.dense.items conn
-      → new.dense.items ≡ slice_set old.dense.items conn None → new.sparse ≡ old.sparse
+  pub place_emptied : (slot : Option Connection) → Some slot ≡ slice_get old.slots.items conn
+      → new.slots.items ≡ slice_set old.slots.items conn None
       → connection_count new + cond (is_some (connection_of old conn)) 1 0 ≡ connection_count old
-  dense_removed slot is dense sparse =
+  place_emptied slot is slots =
       omega (
         arith,
-        slots_counted old.dense.items conn None slot (sym is),
-        ap (count_by is_some) dense,
-        ap hash_map_len sparse,
-        ap {B = ℕ} (λ s. cond (is_some (connection_at s (get nat_eq old.sparse conn))) 1 0) is,
+        slots_counted old.slots.items conn None slot (sym is),
+        ap (count_by is_some) slots,
+        ap {B = ℕ} (λ s. cond (is_some (connection_at s)) 1 0) is,
       )
 
-  pub sparse_removed : (taken : Option Connection) → None ≡ slice_get old.dense.items conn
-      → new.dense.items ≡ old.dense.items → taken ≡ get nat_eq old.sparse conn
-      → hash_map_len new.sparse + cond (is_some taken) 1 0 ≡ hash_map_len old.sparse
+  pub none_emptied : None ≡ slice_get old.slots.items conn → new.slots.items ≡ old.slots.items
       → connection_count new + cond (is_some (connection_of old conn)) 1 0 ≡ connection_count old
-  sparse_removed taken behind dense is fewer =
+  none_emptied none same =
       omega (
         arith,
-        fewer,
-        ap (count_by is_some) dense,
-        ap {B = ℕ} (λ s. cond (is_some s) 1 0) is,
-        ap {B = ℕ} (λ s. cond (is_some (connection_at s (get nat_eq old.sparse conn))) 1 0) behind,
+        ap (count_by is_some) same,
+        ap {B = ℕ} (λ s. cond (is_some (connection_at s)) 1 0) none,
       )
+
+-- nothing is taken out of no place
+pub none_set : (table : ConnectionTable) (conn : ℕ) → None ≡ slice_get table.slots.items conn
+    → IsSet (connection_of table) conn None (connection_of table)
+none_set table conn none q = by (nat_eq conn q) refl
+  where
+    by : (t : Bool) → nat_eq conn q ≡ t → connection_of table q
+        ≡ cond t None (connection_of table q)
+    by true is = ap (connection_of table) (sym (eqb-true conn q is)) ∙ sym (ap connection_at none)
+    by false is = refl
 
 -- bytes that are pushed are to be written
 abbrev pub IsQueuedAt : ℕ → List ℕ → ConnectionTable → ConnectionTable → Type 0

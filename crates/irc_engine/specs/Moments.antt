@@ -1,8 +1,7 @@
 -- What an engine is made of, as one moment.
-use Rattle.std.specs.Prelude.{ℕ, Bool, nat_eq, Option, Some, None}
+use Rattle.std.specs.Prelude.{ℕ, Bool, Option, Some, None}
 use Rattle.std.specs.List.{slice_get}
 use Rattle.std.specs.Vec.{vec_len}
-use Rattle.std.specs.HashMap.{get}
 use Rattle.std.specs.BTreeMap.{BTreeMap, get as get_in_tree}
 use Rattle.std.specs.BTreeSet.{BTreeSet, contains}
 use Rattle.std.specs.Ordering.{nat_cmp}
@@ -12,15 +11,14 @@ use Rattle.irc_engine.specs.declared.connection_table.ConnectionTable.{Connectio
 use Rattle.irc_engine.specs.declared.engine.Core.{Core}
 use Rattle.irc_engine.specs.Running.{MomentOf}
 
--- a number among the dense ones has the connection that is there, and another that of the other map
-abbrev pub connection_at : Option (Option Connection) → Option Connection → Option Connection
-connection_at (Some dense) sparse = dense
-connection_at None sparse = sparse
+-- what is in a place, where there is that place
+abbrev pub connection_at : Option (Option Connection) → Option Connection
+connection_at (Some slot) = slot
+connection_at None = None
 
 -- the connection of a number, if there is one
 abbrev pub connection_of : ConnectionTable → ℕ → Option Connection
-connection_of table conn =
-    connection_at (slice_get table.dense.items conn) (get nat_eq table.sparse conn)
+connection_of table conn = connection_at (slice_get table.slots.items conn)
 
 -- whether a number is in a set
 abbrev pub has : BTreeSet ℕ → ℕ → Bool

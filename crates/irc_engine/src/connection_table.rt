@@ -1,10 +1,10 @@
 //! The connections that are there, by number: the outbox of each, and what has come of its next
 //! line.
-ghost use Rattle.std.specs.Prelude.{◌≡◌, ℕ, Some, None, is_some, length, option_copied, IfOk, OnOk};
-ghost use Rattle.std.specs.List.{slice_get};
+ghost use Rattle.std.specs.Prelude.{◌≡◌, ◌<◌, ℕ, Some, None, is_some, length, IfOk, OnOk};
+ghost use Rattle.std.specs.Option.{option_copied};
 ghost use Rattle.irc_engine.specs.Loops.Tables.{fresh_connection, has_some_at, is_done_at};
 ghost use Rattle.irc_engine.specs.Loops.Tables.{is_open_at, open_kind_at, connection_count};
-ghost use Rattle.irc_engine.specs.Loops.Tables.{CountsWithout, Sets, IsPushedTo};
+ghost use Rattle.irc_engine.specs.Loops.Tables.{AreSame, CountsWithout, Sets, IsPushedTo};
 ghost use Rattle.irc_engine.specs.Moments.{connection_of};
 ghost use Rattle.irc_engine.specs.Loops.Tables.{IsPushedAt, IsPushedIn, IsClosedAt, IsWrittenAt};
 ghost use Rattle.irc_engine.specs.Loops.Tables.{IsWrittenIn, with_line, Frames, FramesAt, FramesIn};
@@ -17,8 +17,6 @@ use crate::outbox_pool::OutboxPool;
 use irc_line::Line;
 use irc_outbox::{IoFault, Overflow, Wire};
 use std::alloc::{AllocError, Global};
-use std::collections::HashMap;
-use std::hash::{BuildHasherDefault, FoldHasher};
 
 /// A connection.
 #[derive(Drop)]
@@ -114,14 +112,12 @@ impl Connection {
     }
 }
 
-/// The connections, by their numbers. What goes to many is pushed at each of their numbers in turn:
-/// those that a wire gives first are found without a search.
+/// The connections, by their numbers: what goes to many is pushed at each of their numbers in turn,
+/// and none is searched for. A wire gives the lowest number that is free, so few places are empty.
 #[derive(Drop)]
 pub(crate) struct ConnectionTable {
-    /// Those of the numbers below its length, each at its number.
-    dense: Vec<Option<Connection>, Global>,
-    /// Those of other numbers.
-    sparse: HashMap<u64, Connection, BuildHasherDefault<FoldHasher>, Global>,
+    /// Each at its number.
+    slots: Vec<Option<Connection>, Global>,
     /// Outboxes for those to which bytes wait.
     pool: OutboxPool,
 }
@@ -133,8 +129,7 @@ impl ConnectionTable {
         ensures { (conn : ℕ) → connection_of result conn ≡ None }
     {
         ConnectionTable {
-            dense: Vec::new(alloc),
-            sparse: HashMap::new(alloc),
+            slots: Vec::new(alloc),
             pool: OutboxPool::new(alloc, client_room, link_room),
         }
     }
@@ -143,9 +138,9 @@ impl ConnectionTable {
     fn find(&self, conn: u64) -> Option<&Connection>
         ensures { option_copied result ≡ connection_of self.now conn }
     {
-        match self.dense.get(conn as usize) {
+        match self.slots.get(conn as usize) {
             Some(slot) => slot.as_ref(),
-            None => self.sparse.get(&conn),
+            None => None,
         }
     }
 
@@ -207,37 +202,25 @@ impl ConnectionTable {
         ensures { OnOk result (Sets self.old conn (Some (fresh_connection kind room)) self.new) }
     {
         let fresh = Connection::fresh(alloc, kind, room)?;
-        let next = self.dense.len();
-        match self.dense.get_mut(conn as usize) {
+        self.reach(conn)?;
+        match self.slots.get_mut(conn as usize) {
             Some(slot) => {
                 *slot = Some(fresh);
                 Ok(())
             }
-            None if conn as usize == next => self.insert_next(fresh),
-            None => self.insert_sparse(conn, fresh),
+            None => unreachable!(),
         }
     }
 
-    /// This connection is there from now on, at the first number behind those of the dense ones.
-    fn insert_next(&mut self, connection: Connection) -> Result<(), AllocError>
-        ensures { OnOk result
-            (Sets self.old (length self.old.dense.items) (Some connection) self.new) }
+    /// There is a place for this number from now on.
+    fn reach(&mut self, conn: u64) -> Result<(), AllocError>
+        ensures same { OnOk result (AreSame (connection_of self.old) (connection_of self.new)) }
+        ensures reached { OnOk result (conn < length self.new.slots.items) }
     {
-        match self.dense.push(Some(connection)) {
-            Ok(()) => Ok(()),
-            Err(_) => Err(AllocError),
+        while self.slots.len() <= conn as usize {
+            self.slots.push(None)?;
         }
-    }
-
-    /// This connection is there from now on, at a number behind those of the dense ones.
-    fn insert_sparse(&mut self, conn: u64, connection: Connection) -> Result<(), AllocError>
-        requires { slice_get self.old.dense.items conn ≡ None }
-        ensures { OnOk result (Sets self.old conn (Some connection) self.new) }
-    {
-        match self.sparse.insert(conn, connection) {
-            Ok(_) => Ok(()),
-            Err(_) => Err(AllocError),
-        }
+        Ok(())
     }
 
     /// A connection is there no more.
@@ -245,11 +228,9 @@ impl ConnectionTable {
         ensures at { Sets self.old conn None self.new }
         ensures len { CountsWithout conn self.old self.new }
     {
-        match self.dense.get_mut(conn as usize) {
+        match self.slots.get_mut(conn as usize) {
             Some(slot) => *slot = None,
-            None => {
-                self.sparse.remove(&conn);
-            }
+            None => {}
         }
     }
 
@@ -266,12 +247,9 @@ impl ConnectionTable {
         ensures len { IfOk result
             (λ pushed. connection_count self.new ≡ connection_count self.old) }
     {
-        match self.dense.get_mut(conn as usize) {
+        match self.slots.get_mut(conn as usize) {
             Some(slot) => push(slot, &mut self.pool, bytes),
-            None => match self.sparse.get_mut(&conn) {
-                Some(connection) => connection.push(&mut self.pool, bytes),
-                None => Ok(Ok(Pushed::Nothing)),
-            },
+            None => Ok(Ok(Pushed::Nothing)),
         }
     }
 
@@ -280,13 +258,9 @@ impl ConnectionTable {
         ensures at { IsClosedAt conn self.old self.new }
         ensures len { connection_count self.new ≡ connection_count self.old }
     {
-        match self.dense.get_mut(conn as usize) {
+        match self.slots.get_mut(conn as usize) {
             Some(slot) => close_when_written(slot),
-            None => {
-                if let Some(connection) = self.sparse.get_mut(&conn) {
-                    connection.framer = None;
-                }
-            }
+            None => {}
         }
     }
 
@@ -302,12 +276,9 @@ impl ConnectionTable {
         ensures at { FramesAt conn piece.now self.old (with_line result line.new) self.new }
         ensures len { connection_count self.new ≡ connection_count self.old }
     {
-        match self.dense.get_mut(conn as usize) {
+        match self.slots.get_mut(conn as usize) {
             Some(slot) => take(slot, piece, line),
-            None => match self.sparse.get_mut(&conn) {
-                Some(connection) => connection.take(piece, line),
-                None => None,
-            },
+            None => None,
         }
     }
 
@@ -319,12 +290,9 @@ impl ConnectionTable {
         ensures at { IsWrittenAt W.is_after conn self.old wire.old result self.new wire.new }
         ensures len { connection_count self.new ≡ connection_count self.old }
     {
-        match self.dense.get_mut(conn as usize) {
+        match self.slots.get_mut(conn as usize) {
             Some(slot) => write(slot, &mut self.pool, wire, conn),
-            None => match self.sparse.get_mut(&conn) {
-                Some(connection) => connection.outbox.write_some(&mut self.pool, wire, conn),
-                None => Ok(0),
-            },
+            None => Ok(0),
         }
     }
 }

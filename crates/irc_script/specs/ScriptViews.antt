@@ -1,6 +1,5 @@
 -- What the code's scripts and commands say.
-use Rattle.std.specs.Prelude.{◌≡◌, ℕ, Option, Result, Ok, Err, List, map, ⊤}
-use Rattle.std.specs.Option.{option_copied}
+use Rattle.std.specs.Prelude.{◌≡◌, ℕ, Result, Ok, Err, List, map, ⊤}
 use Rattle.irc_script.specs.declared.fault.SimFault.{SimFault}
 use Rattle.irc_script.specs.declared.fault.SimFault.TheVariants.{BadScript, Failed, Device}
 use Rattle.irc_script.specs.declared.commands.ScriptCommand.{ScriptCommand}
@@ -18,9 +17,6 @@ cut_now parts = record { before = parts.0.now; behind = parts.1.now }
 
 abbrev pub pair_now : List ℕ × List ℕ → Pair
 pair_now names = record { near = names.0; far = names.1 }
-
-abbrev pub name_now : Option (Bor (List ℕ)) → Option (List ℕ)
-name_now = option_copied
 
 abbrev pub request : ScriptCommand → Request
 request (command.Connect server host) = connects server host

@@ -3,7 +3,7 @@ use Rattle.std.proofs.Common.{◌≡◌, ℕ, Option, Some, None, Result, Ok, Er
 use Rattle.std.proofs.Common.{refl, sym, ◌∙◌, ap, subst, option_map}
 use Rattle.std.specs.Borrow.{Bor}
 use Rattle.std.specs.FinMap.{get}
-use Rattle.std.specs.Option.{option_copied, option_or}
+use Rattle.std.specs.Option.{option_copied}
 use Rattle.std.proofs.lemmas.Option.{same_Some}
 use Rattle.arrayvec.specs.ArrayVec.{ArrayVec}
 use Rattle.irc_line.specs.Messages.{Parsed}
@@ -186,15 +186,10 @@ matched_after stays view event done matched well owed is =
 
 -- what comes of each way out of `handle`
 
--- what is taken out of a server is what it was, and nothing is left
+-- what is taken out of a server is what it was
 pub kept_view : (now : Option View) (view kept : View) → now ≡ Some view → now ≡ Some kept
     → kept ≡ view
 kept_view now view kept is taken_is = same_Some kept view (sym taken_is ∙ is)
-
-pub nothing_kept : (first stage : Option View) → first ≡ None → stage ≡ None
-    → option_or first stage ≡ None
-nothing_kept first stage no_first no_stage =
-    ap (λ (f : Option View). option_or f stage) no_first ∙ no_stage
 
 pub failed_stays : (now new : Option View) (event : Event) (out : List Sent) → now ≡ None
     → new ≡ None → IsHandled now event out (Err Failed) new out

@@ -3,3 +3,4 @@ pub mod Telling
 pub mod Serving
 pub mod Acting
 pub mod Settings
+pub mod States

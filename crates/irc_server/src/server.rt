@@ -1,8 +1,7 @@
 //! One server.
-ghost use Rattle.std.specs.Prelude.{◌≡◌, None, Some, false, is_some, IfOk, OnOk};
+ghost use Rattle.std.specs.Prelude.{◌≡◌, Ok, Some, false, is_some, IfOk, OnOk};
 ghost use Rattle.std.specs.FinMap.{get};
 ghost use Rattle.std.specs.Option.{option_and_then, option_copied, option_map, option_map_or};
-ghost use Rattle.std.specs.Option.{option_or};
 ghost use Rattle.irc_server.specs.Configuring.{IsMade};
 ghost use Rattle.irc_server.specs.Connected.{has_user, is_user};
 ghost use Rattle.irc_server.specs.LinesThatSet.{IsSetBy};
@@ -10,6 +9,8 @@ ghost use Rattle.irc_server.specs.ReadEvents.{AreHandled, IsHandled};
 ghost use Rattle.irc_server.specs.Owed.{AllReceive};
 ghost use Rattle.irc_server.specs.Loops.Acting.{room_kept, room_of};
 ghost use Rattle.irc_server.specs.Loops.Settings.{fault_at};
+ghost use Rattle.irc_server.specs.Loops.States.{view_in};
+ghost use Rattle.irc_server.specs.declared.server.State.TheVariants.{Failed, Running};
 ghost use Rattle.irc_stage.specs.View.{password_for, View};
 
 use crate::acting::{act, refusal, unless_open};
@@ -23,52 +24,59 @@ use irc_routes::Routes;
 use irc_stage::{Client, Conn, FirstStage, Link, Stage, View};
 use std::alloc::{AllocError, Global};
 use std::marker::Model;
+use std::mem;
+
+/// What has become of a server.
+#[derive(Drop)]
+enum State {
+    /// It has taken no event yet, and has no memory of its own.
+    First(FirstStage),
+    /// It has taken one.
+    Running(Stage),
+    /// Memory ran out.
+    Failed,
+}
 
 /// One server.
 #[derive(Drop)]
 pub struct Server {
-    /// What it is until its first event.
-    first: Option<FirstStage>,
-    /// What it is from then on; none once memory ran out.
-    stage: Option<Stage>,
+    state: State,
 }
 
 /// In a clause it is what a server is to those above, or nothing once memory ran out.
 impl Model for Server {
     ghost use Rattle.std.specs.Prelude.{Option};
     ghost use Rattle.std.specs.Coded.{coded_option};
-    ghost use Rattle.std.specs.Option.{option_or};
     ghost use Rattle.irc_users.specs.UserTable.{users_code};
     ghost use Rattle.irc_channels.specs.contracts.channel.Channel.{the_row as channel_row};
     ghost use Rattle.irc_routes.specs.contracts.routes.Routes.{the_row as routes_row};
     ghost use Rattle.irc_stage.specs.contracts.clients.Client.{the_row as client_row};
     ghost use Rattle.irc_stage.specs.View.{View};
     ghost use Rattle.irc_stage.specs.Loops.Codes.{view_code};
+    ghost use Rattle.irc_server.specs.Loops.States.{view_in};
 
     ghost Value = { Option View };
 
     ghost coded = { coded_option
         (view_code routes_row.coded client_row.coded users_code channel_row.coded) };
 
-    ghost view = { λ s. option_or s.first s.stage };
+    ghost view = { λ s. view_in s.state };
 }
 
-/// Takes out what a server is: before its first event it gets memory of its own.
+/// Takes out what a server is: it has failed until something is put back. Before the first event
+/// that it takes it gets memory of its own; from then on none is wanted.
 ///
 /// # Errors
 /// Where memory runs out, or ran out before.
-fn taken(first: &mut Option<FirstStage>, stage: &mut Option<Stage>) -> Result<Stage, AllocError>
-    ensures taken { IfOk result (λ kept. option_or first.old stage.old ≡ Some kept) }
-    ensures no_first { first.new ≡ None }
-    ensures no_stage { stage.new ≡ None }
+fn taken(state: &mut State) -> Result<Stage, AllocError>
+    ensures taken { IfOk result (λ stage. view_in state.old ≡ Some stage) }
+    ensures failed { state.new ≡ Failed }
+    ensures running { (stage : View) → state.old ≡ Running stage → result ≡ Ok stage }
 {
-    let stage = stage.take();
-    if first.is_none() {
-        return stage.ok_or(AllocError);
-    }
-    match first.take() {
-        Some(first) => first.keep(),
-        None => Err(AllocError),
+    match mem::replace(state, State::Failed) {
+        State::First(first) => first.boxed(),
+        State::Running(stage) => Ok(stage),
+        State::Failed => Err(AllocError),
     }
 }
 
@@ -97,8 +105,7 @@ impl Server {
         }
         let routes = Routes::new(config.own);
         Ok(Server {
-            first: Some(FirstStage::new(alloc, routes, config.peers)),
-            stage: None,
+            state: State::First(FirstStage::new(alloc, routes, config.peers)),
         })
     }
 
@@ -106,12 +113,10 @@ impl Server {
     fn view(&self) -> Option<View<'_>>
         ensures { result ≡ self.now }
     {
-        if let Some(first) = &self.first {
-            return Some(first.view());
-        }
-        match &self.stage {
-            Some(stage) => Some(stage.view()),
-            None => None,
+        match &self.state {
+            State::First(first) => Some(first.view()),
+            State::Running(stage) => Some(stage.view()),
+            State::Failed => None,
         }
     }
 
@@ -188,8 +193,8 @@ impl Server {
         if let Some(fault) = refusal(&view, event) {
             return Err(fault);
         }
-        let stage = taken(&mut self.first, &mut self.stage)?;
-        self.stage = Some(act(stage, event)?.end(out)?);
+        let stage = taken(&mut self.state)?;
+        self.state = State::Running(act(stage, event)?.end(out)?);
         Ok(())
     }
 
@@ -220,8 +225,8 @@ impl Server {
         if let Some(fault) = self.refusal_at(number) {
             return Err(fault);
         }
-        let stage = taken(&mut self.first, &mut self.stage)?;
-        self.stage = Some(set_line(stage, number, line)?.end(out)?);
+        let stage = taken(&mut self.state)?;
+        self.state = State::Running(set_line(stage, number, line)?.end(out)?);
         Ok(())
     }
 

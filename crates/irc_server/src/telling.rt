@@ -71,8 +71,8 @@ pub(crate) fn gain(serving: Serving, link: Link, server: &NewServer) -> Result<S
         token: server.token,
         info: &server.info,
     };
-    let (serving, taken) = serving.add_server(newcomer)?;
-    if !taken {
+    let (serving, is_known) = serving.add_server(&newcomer)?;
+    if !is_known {
         return Ok(serving);
     }
     let routes = serving.view().routes();

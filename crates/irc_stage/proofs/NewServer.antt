@@ -1,5 +1,5 @@
 -- A new server has an empty room, and no clients.
-use Rattle.std.proofs.Common.{◌≡◌, ℕ, List, ap}
+use Rattle.std.proofs.Common.{◌≡◌, ap}
 use Rattle.std.specs.Ordering.{nat_cmp}
 use Rattle.std.specs.FinMap.{empty, get, get-empty}
 use Rattle.irc_names.specs.Tables.{fold_cmp, row}

@@ -1,11 +1,7 @@
 //! The links behind which a channel has members, kept for as long as nothing changes.
-ghost use Rattle.std.specs.Prelude.{◌≡◌, None, option_to_list, IfOk, OnOk};
-ghost use Rattle.std.specs.List.{filter_map};
-ghost use Rattle.std.specs.Option.{option_and_then, option_copied};
-ghost use Rattle.irc_names.specs.Fold.{key};
-ghost use Rattle.irc_room.specs.Readers.{home_under};
+ghost use Rattle.std.specs.Prelude.{◌≡◌, None, option_to_list, OnOk};
+ghost use Rattle.std.specs.Option.{option_copied};
 ghost use Rattle.irc_routes.specs.Known.{next_hop};
-ghost use Rattle.irc_stage.specs.Ways.{homes_of};
 ghost use Rattle.irc_stage.specs.Loops.Around.{hop_of};
 ghost use Rattle.irc_stage.specs.Loops.Branching.{Added, AreBranches, hops_of, is_of, link_toward};
 ghost use Rattle.irc_stage.specs.Loops.Branching.{links_of};

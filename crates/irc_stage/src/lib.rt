@@ -1,6 +1,7 @@
-//! A server between two events ([`Stage`]), and while it handles one ([`Serving`], [`Handling`]):
-//! its clients, its room, its links, and what it puts out. What is moved from call to call is the
-//! whole server, so that each clause is one equation. These types alone seat a client, take one
+//! A server before its first event ([`FirstStage`]), between two ([`Stage`]), and while it handles
+//! one ([`Serving`], [`Handling`]): its clients, its room, its links, and what it puts out. A call
+//! takes the whole server and gives it back, so that each clause is one equation; what is moved is
+//! a pointer to it. These types alone seat a client, take one
 //! out, open a link and apply an effect; they alone decide on which links a line goes, and forget
 //! what a change makes stale. Definitions are in `specs/`.
 #![tactic(auto)]

@@ -1,32 +1,27 @@
 //! What a server keeps of its links and of the servers behind them, and what comes by its links.
-ghost use Rattle.std.specs.Prelude.{◌≡◌, false, List, None, Some, IfOk, OnOk};
+ghost use Rattle.std.specs.Prelude.{◌≡◌, false, None, Some, IfOk, OnOk};
 ghost use Rattle.std.specs.FinMap.{get, insert};
 ghost use Rattle.std.specs.Option.{option_copied, option_map_or};
 ghost use Rattle.irc_users.specs.UserTable.{is_home};
 ghost use Rattle.irc_room.specs.Effects.{brings_free};
+ghost use Rattle.irc_room.specs.Loops.Naming.{IsNamed};
 ghost use Rattle.irc_stage.specs.EffectTold.{counts, is_of_here};
 ghost use Rattle.irc_stage.specs.Linked.{unlinked, with_far, with_password, with_title};
 ghost use Rattle.irc_stage.specs.Linked.{without_row};
-ghost use Rattle.irc_stage.specs.View.{KnownPeer, with_end};
-ghost use Rattle.irc_stage.specs.Loops.Around.{view_in, IsNamedIn};
+ghost use Rattle.irc_stage.specs.View.{View, with_end};
 ghost use Rattle.irc_stage.specs.Loops.Linking.{takes_newcomer, IsKnownIf, IsMetAt, IsToldToAll};
-ghost use Rattle.irc_stage.specs.Loops.Parts.{numbered, view_of, ChangesIf};
-ghost use Rattle.irc_stage.specs.Loops.Parts.{ComesByLink, EndsClient, IsReady, IsServing, Keeps};
-ghost use Rattle.irc_stage.specs.Loops.Parts.{Quits, TakesOut};
+ghost use Rattle.irc_stage.specs.Loops.Parts.{numbered, view_of, ChangesIf, ComesByLink};
+ghost use Rattle.irc_stage.specs.Loops.Parts.{IsServing};
 
 use crate::LinkEnd;
-use crate::clients::number_of;
 use crate::numbers::Link;
 use crate::origin::Origin;
-use crate::parts::{ServerParts, is_elsewhere, send_on_all, settle};
-use crate::ways::Around;
+use crate::parts::{ServerParts, send_on_all};
 use irc_batch::Batch;
-use irc_channels::Words;
-use irc_commands::closing;
 use irc_line::Text;
 use irc_link_words::Password;
-use irc_names::{ChannelName, Nick, ServerName};
-use irc_room::{Effect, Room, does};
+use irc_names::{ChannelName, ServerName};
+use irc_room::{Effect, Named, Room, does};
 use irc_routes::{Info, Routes, RoutesFault};
 use irc_users::User;
 use std::alloc::{AllocError, Global};
@@ -113,12 +108,12 @@ impl ServerParts {
     ///
     /// # Errors
     /// Where memory runs out.
-    pub(crate) fn add_server(&mut self, newcomer: Newcomer<'_>) -> Result<bool, AllocError>
+    pub(crate) fn add_server(&mut self, newcomer: &Newcomer<'_>) -> Result<bool, AllocError>
         requires serving { IsServing self.old }
-        requires met { IsMetAt newcomer.link self.old }
-        ensures taken { IfOk result
-            (λ taken. taken ≡ takes_newcomer newcomer.entry (view_of self.old)) }
-        ensures known { IfOk result (IsKnownIf newcomer.entry self.old self.new) }
+        requires met { IsMetAt newcomer.now.link self.old }
+        ensures is_known { IfOk result
+            (λ is_known. is_known ≡ takes_newcomer newcomer.now (view_of self.old)) }
+        ensures known { IfOk result (IsKnownIf newcomer.now self.old self.new) }
         ensures serving { OnOk result (IsServing self.new) }
     {
         let link = newcomer.link.number();
@@ -184,40 +179,29 @@ impl ServerParts {
     ///
     /// # Errors
     /// Where memory runs out.
-    pub fn come(&mut self, link: Link, effect: &Effect, out: &mut Batch) -> Result<(), AllocError>
+    pub(crate) fn come(
+        &mut self,
+        link: Link,
+        effect: &Effect,
+        out: &mut Batch,
+    ) -> Result<(), AllocError>
         requires serving { IsServing self.old }
         ensures ok { OnOk result
             (ComesByLink (Some link) effect.now self.old out.old self.new out.new) }
         ensures serving { OnOk result (IsServing self.new) }
     {
-        let around = Around {
-            room: &self.room,
-            routes: &self.routes,
-            ends: &self.ends,
-            clients: &self.clients,
-            named: self.room.named(effect),
-        };
-        if !counts(around, effect) {
+        if !self.counts(effect) {
             return Ok(());
         }
         let origin = Origin::link(link);
-        let mut line = Text::new();
-        self.ways.ready(around, Some(link), effect, &mut line)?;
-        if is_elsewhere(around, effect) {
-            return self.ways.tell(&line, out);
-        }
-        let mut shown = Text::new();
-        self.listeners
-            .hear(around, origin, effect, &mut shown, out)?;
-        settle(&mut self.room, &mut self.clients, &mut self.ways, effect)?;
-        self.ways.tell(&line, out)
+        self.apply(origin, effect, out)
     }
 
     /// An effect comes by a link, and is not told on by itself: where it counts.
     ///
     /// # Errors
     /// Where memory runs out.
-    pub fn take_effect(
+    pub(crate) fn take_effect(
         &mut self,
         link: Link,
         effect: &Effect,
@@ -227,45 +211,33 @@ impl ServerParts {
         ensures ok { OnOk result (ChangesIf effect.now self.old out.old self.new out.new) }
         ensures serving { OnOk result (IsServing self.new) }
     {
-        let around = Around {
-            room: &self.room,
-            routes: &self.routes,
-            ends: &self.ends,
-            clients: &self.clients,
-            named: self.room.named(effect),
-        };
-        if !counts(around, effect) {
-            return Ok(());
-        }
-        if is_elsewhere(around, effect) {
+        if !self.counts(effect) {
             return Ok(());
         }
         let origin = Origin::link(link);
-        let mut shown = Text::new();
-        self.listeners
-            .hear(around, origin, effect, &mut shown, out)?;
-        settle(&mut self.room, &mut self.clients, &mut self.ways, effect)?;
-        Ok(())
+        self.change(origin, effect, out)
+    }
+
+    /// Whether an effect counts of which a link tells.
+    fn counts(&self, effect: &Effect) -> bool
+        ensures { result ≡ counts (view_of self.now) effect.now }
+    {
+        let named = self.room.named(effect);
+        does(effect, named)
+            && is_free(&self.room, effect)
+            && !is_of_here(&self.routes, named, effect)
     }
 }
 
-/// Whether an effect counts of which a link tells.
-fn counts(around: Around<'_>, effect: &Effect) -> bool
-    ensures { (peers : List KnownPeer) → IsNamedIn around.entry effect.now
-        → result ≡ counts (view_in peers around.entry) effect.now }
-{
-    does(effect, around.named) && is_free(around.room, effect) && !is_of_here(around, effect)
-}
-
 /// Whether a user of the server's own comes, leaves or speaks by an effect.
-fn is_of_here(around: Around<'_>, effect: &Effect) -> bool
-    ensures { (peers : List KnownPeer) → IsNamedIn around.entry effect.now
-        → result ≡ is_of_here (view_in peers around.entry) effect.now }
+fn is_of_here(routes: &Routes, named: Named<'_>, effect: &Effect) -> bool
+    ensures { (view : View) → IsNamed view.room effect.now named.entry
+        → result ≡ is_of_here (record view { routes = routes.now }) effect.now }
 {
     match effect {
-        Effect::AddUser(user) => user.is_home(around.routes.name()),
-        Effect::Quit { .. } => is_home(around.routes, around.named.doer),
-        Effect::Say { .. } => is_home(around.routes, around.named.doer),
+        Effect::AddUser(user) => user.is_home(routes.name()),
+        Effect::Quit { .. } => is_home(routes, named.doer),
+        Effect::Say { .. } => is_home(routes, named.doer),
         _ => false,
     }
 }
@@ -292,7 +264,7 @@ fn is_free(room: &Room, effect: &Effect) -> bool
 }
 
 /// A link has this end from now on.
-pub(crate) fn put_end(
+fn put_end(
     ends: &mut BTreeMap<Link, LinkEnd, Global>,
     link: Link,
     end: LinkEnd,

@@ -113,28 +113,11 @@ impl Serving {
     ///
     /// # Errors
     /// Where memory runs out.
-    pub fn add_server(mut self, newcomer: Newcomer<'_>) -> Result<(Self, bool), AllocError>
-        requires met { IsMetEnd (get self.state.ends newcomer.link) }
-        ensures { IfOk result (λ gained. IsGained newcomer.entry self gained.1 gained.0) }
+    pub fn add_server(mut self, newcomer: &Newcomer<'_>) -> Result<(Self, bool), AllocError>
+        requires met { IsMetEnd (get self.state.ends newcomer.now.link) }
+        ensures { IfOk result (λ gained. IsGained newcomer.now self gained.1 gained.0) }
     {
-        // parted and put together anew: a struct of references that is handed on whole is not
-        // covered by the borrow check
-        let Newcomer {
-            link,
-            uplink,
-            name,
-            distance,
-            token,
-            info,
-        } = newcomer;
-        let is_known = self.parts.add_server(Newcomer {
-            link,
-            uplink,
-            name,
-            distance,
-            token,
-            info,
-        })?;
+        let is_known = self.parts.add_server(newcomer)?;
         Ok((self, is_known))
     }
 

@@ -43,7 +43,7 @@ impl Model for Stage {
     ghost invariant = { λ s. IsAtRest s.parts.value s.out };
 }
 
-/// A server that no event has come to: it takes no memory.
+/// A server that has taken no event yet: it has no memory of its own.
 #[derive(Drop)]
 pub struct FirstStage {
     parts: ServerParts,
@@ -86,11 +86,11 @@ impl FirstStage {
         View::of(&self.parts)
     }
 
-    /// An event comes to it: from now on it is in memory of its own.
+    /// It takes an event: from now on it is in memory of its own.
     ///
     /// # Errors
     /// Where memory runs out.
-    pub fn keep(self) -> Result<Stage, AllocError>
+    pub fn boxed(self) -> Result<Stage, AllocError>
         ensures { IfOk result (λ stage. stage ≡ self) }
     {
         let alloc = self.parts.alloc();

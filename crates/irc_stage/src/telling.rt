@@ -1,5 +1,5 @@
 //! What an effect shows to the clients of a server that it is still to change.
-ghost use Rattle.std.specs.Prelude.{◌≡◌, OnOk};
+ghost use Rattle.std.specs.Prelude.{OnOk};
 ghost use Rattle.irc_room.specs.After.{after};
 ghost use Rattle.irc_stage.specs.Loops.Around.{machine_in, AreSoIn, IsHeard, IsLent};
 ghost use Rattle.irc_stage.specs.Loops.Around.{IsSaidInChannel, IsUnheard};

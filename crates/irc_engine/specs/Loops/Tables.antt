@@ -3,7 +3,6 @@ use Rattle.std.specs.Prelude.{◌≡◌, ℕ, ◌+◌, ◌<◌, ◌≤◌, true,
 use Rattle.std.specs.Prelude.{Some, None, Result, Ok, Err, List, [], ◌++◌, length, take}
 use Rattle.std.specs.Prelude.{if◌then◌else◌}
 use Rattle.std.specs.List.{count_by}
-use Rattle.std.specs.HashMap.{hash_map_len}
 use Rattle.arrayvec.specs.ArrayVec.{ArrayVec}
 use Rattle.irc_line.specs.Framed.{found_in}
 use Rattle.irc_line.specs.Lines.{Begun, Takes}
@@ -22,7 +21,7 @@ pub use Rattle.irc_engine.specs.Carrying.{open_kind_at}
 
 -- how many there are
 abbrev pub connection_count : ConnectionTable → ℕ
-connection_count table = count_by is_some table.dense.items + hash_map_len table.sparse
+connection_count table = count_by is_some table.slots.items
 
 -- all connections are as they were, but one
 abbrev pub IsSet : (ℕ → Option Connection) → ℕ → Option Connection → (ℕ → Option Connection)

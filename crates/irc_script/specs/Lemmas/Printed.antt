@@ -34,19 +34,6 @@ around_at f xs i d within =
     ∙ flat_map-append f (take i xs) (get_or xs i d ∷ drop (i + 1) xs)
     ∙ sym (append_assoc (flat_map f (take i xs)) (f (get_or xs i d)) (flat_map f (drop (i + 1) xs)))
 
--- the same of an element that is known
-pub one_more : {X : Type 0} (f : X → List ℕ) (xs : List X) (i : ℕ) (d : X) → i < length xs
-    → d ≡ get_or xs i d → flat_map f (take (i + 1) xs) ≡ flat_map f (take i xs) ++ f d
-one_more f xs i d within is =
-    more_at f xs i d within ∙ ap (λ x. flat_map f (take i xs) ++ f x) (sym is)
-
-pub all_around : {X : Type 0} (f : X → List ℕ) (xs : List X) (i : ℕ) (d : X)
-    → i < length xs → d ≡ get_or xs i d
-    → flat_map f xs ≡ (flat_map f (take i xs) ++ f d) ++ flat_map f (drop (i + 1) xs)
-all_around f xs i d within is =
-    around_at f xs i d within
-    ∙ ap (λ x. (flat_map f (take i xs) ++ f x) ++ flat_map f (drop (i + 1) xs)) (sym is)
-
 pub keeps_appended : (old middle new : Option (List ℕ)) (bytes : List ℕ) → Appends old middle bytes
     → Keeps middle new → Appends old new bytes
 keeps_appended None middle new bytes p q = tt

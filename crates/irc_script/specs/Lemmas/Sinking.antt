@@ -80,11 +80,6 @@ loses_on {a = a} {b = b} {c = c} {s = s} p q = record {
   };
 }
 
-pub loses_when : (r : Result (Unit {0}) Unwritten) (a b : Sink) (s : List ℕ) → IsPrinted r a b s
-    → Loses a b s
-loses_when (Ok _) a b s p = no_loss p
-loses_when (Err fault) a b s p = p
-
 pub prints_kept : {a b : Sink} {s : List ℕ} (held : Option (List ℕ)) → Prints a b s
     → Keeps b.held held → Prints a (sink held b.waiting) s
 prints_kept {a = a} {b = b} held p k = record {

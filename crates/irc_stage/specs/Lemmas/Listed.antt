@@ -10,7 +10,7 @@ use Rattle.std.specs.Map.{keys_of}
 use Rattle.std.specs.Option.{option_and_then}
 use Rattle.std.specs.Ordering.{is_lt, nat_cmp}
 use Rattle.std.specs.Cmp.{nat_cmp_total}
-use Rattle.std.specs.FinMap.{empty, entries, entries-from_sorted, from_entries, from_sorted}
+use Rattle.std.specs.FinMap.{entries, entries-from_sorted, from_entries, from_sorted}
 use Rattle.std.specs.FinMap.{get-from_entries, get-from_sorted, is_sorted, keys}
 use Rattle.std.specs.FinMap.{nat_cmp-IsAntisymmetric, same_map}
 use Rattle.std.specs.FinMap.Entries.{below_all}
@@ -71,13 +71,3 @@ pub all_met : (ends : BTreeMap ℕ End) (shown : List (ℕ × End)) → IsStrict
     (keys_of ends.entries) → shown ≡ ends.entries → met_among shown ≡ met_links (numbered ends)
 all_met ends shown sorted all =
     ap met_among (all ∙ sym (listed ends.entries (held _ (rising ends.entries sorted))))
-
--- where no link is open none counts, and toward nobody there is none
-
-pub none_met : met_links empty ≡ []
-none_met = ap met_among (listed [] tt)
-
-pub none_toward : (known : Known) (homes : List (List ℕ)) → filter_map (next_hop known) homes ≡ []
-    → links_toward known homes ≡ []
-none_toward known homes none =
-    ap (λ hops. keys (from_entries {R = nat_cmp} (map link_key hops))) none ∙ one_key None

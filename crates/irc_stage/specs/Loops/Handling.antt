@@ -56,7 +56,7 @@ abbrev pub closed_for : ℕ → CloseReason → Served → Served
 closed_for link reason s = with_sent (end_of_link link reason ∷ []) s
 
 -- A server more is known from now on, where it is taken.
-pub record IsGained (newcomer : Newcomer) (old : Served) (taken : Bool) (new : Served)
+pub record IsGained (newcomer : Newcomer) (old : Served) (is_known : Bool) (new : Served)
     : Type 0 where
-  pub taken_is : taken ≡ takes_newcomer newcomer old.state
-  pub new_is : new ≡ where_it_is (view_with taken newcomer old.state) old
+  pub known_is : is_known ≡ takes_newcomer newcomer old.state
+  pub new_is : new ≡ where_it_is (view_with is_known newcomer old.state) old

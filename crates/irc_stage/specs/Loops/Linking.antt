@@ -16,8 +16,8 @@ IsMetAt link stage = IsMetEnd (get (view_of stage).ends link)
 
 -- a server more, where it is taken
 abbrev pub view_with : Bool → Newcomer → View → View
-view_with taken newcomer view =
-    if taken then with_row newcomer.link newcomer.uplink.now newcomer.name.now newcomer.distance
+view_with is_known newcomer view =
+    if is_known then with_row newcomer.link newcomer.uplink.now newcomer.name.now newcomer.distance
     newcomer.token newcomer.info.now view else view
 
 -- it is taken where it can be, and known from then on
@@ -25,7 +25,7 @@ abbrev pub takes_newcomer : Newcomer → View → Bool
 takes_newcomer newcomer view = is_taken view.routes newcomer.link newcomer.name.now newcomer.token
 
 abbrev pub IsKnownIf : Newcomer → ServerParts → ServerParts → Bool → Type 0
-IsKnownIf newcomer old new taken = view_of new ≡ view_with taken newcomer (view_of old)
+IsKnownIf newcomer old new is_known = view_of new ≡ view_with is_known newcomer (view_of old)
 
 -- a line goes on every link that counts, but for one
 abbrev pub IsToldToAll : Option ℕ → List ℕ → ServerParts → Batch → ServerParts → Batch → Type 0

@@ -1,7 +1,6 @@
 -- A server as its code has it while an event is handled.
-use Rattle.std.specs.Prelude.{◌≡◌, ℕ, ⊤, Bool, false, Option, Some, None, List, [], ◌∷◌, ◌++◌, map}
+use Rattle.std.specs.Prelude.{◌≡◌, ℕ, ⊤, false, Option, Some, None, List, [], ◌∷◌, ◌++◌, map}
 use Rattle.std.specs.FinMap.{get}
-use Rattle.irc_line.specs.MessageViews.{optional_now}
 use Rattle.irc_names.specs.Fold.{key}
 use Rattle.irc_names.specs.Tables.{Table, row, alter}
 use Rattle.irc_users.specs.declared.user.User.{User}
@@ -17,7 +16,6 @@ use Rattle.irc_stage.specs.declared.clients.Client.{Client}
 use Rattle.irc_stage.specs.declared.clients.Client.TheVariants.{Registered}
 use Rattle.irc_stage.specs.declared.clients.ClientTable.{ClientTable}
 use Rattle.irc_batch.specs.Batches.{Batch, Sent, line_on}
-use Rattle.irc_stage.specs.declared.origin.Speaker.{Speaker}
 use Rattle.irc_stage.specs.declared.parts.ServerParts.{ServerParts}
 use Rattle.irc_stage.specs.RoomMachine.{Clients, RoomMachine, client_of, each_client}
 use Rattle.irc_stage.specs.View.{View, known_peer, machine_of}
@@ -26,9 +24,8 @@ use Rattle.irc_stage.specs.Loops.Branching.{IsRightIn}
 pub use Rattle.irc_stage.specs.Loops.Numbered.{numbered}
 use Rattle.irc_stage.specs.Handle.{renamed_in, machine_after}
 use Rattle.irc_stage.specs.Matched.{IsMatched}
-use Rattle.irc_stage.specs.EffectTold.{Served, changed, changed_if, client_ended, effect_came}
-use Rattle.irc_stage.specs.EffectTold.{effect_told, quit_by, taken_out, view_after}
-use Rattle.irc_stage.specs.ClientTold.{closed_told, step_told, steps_told}
+use Rattle.irc_stage.specs.EffectTold.{Served, changed, changed_if, effect_came, effect_told}
+use Rattle.irc_stage.specs.EffectTold.{quit_by, view_after}
 use Rattle.irc_stage.specs.Loops.Listening.{AreSo}
 
 abbrev pub clients_of : ClientTable → Clients
@@ -75,12 +72,6 @@ view_of stage = record {
 abbrev pub machine_at : ServerParts → RoomMachine
 machine_at stage = machine_of (view_of stage)
 
--- what no client's event changes: what is known of other servers, the configuration, the links
-pub record Keeps (old new : ServerParts) : Type 0 where
-  pub routes : new.routes ≡ old.routes
-  pub peers : new.peers ≡ old.peers
-  pub ends : new.ends ≡ old.ends
-
 -- the server now, and what has been put out
 abbrev pub served_at : ServerParts → List Sent → Served
 served_at stage out = record { state = view_of stage; out = out }
@@ -109,35 +100,10 @@ abbrev pub ChangesIf : Effect → ServerParts → Batch → ServerParts → Batc
 ChangesIf effect old out new out_after =
     served_at new out_after.outs ≡ changed_if effect (served_at old out.outs)
 
--- The user of a nickname quits with this text, and the client that it is is closed.
-abbrev pub TakesOut : List ℕ → List ℕ → ServerParts → Batch → ServerParts → Batch → Type 0
-TakesOut nick text old out new out_after =
-    served_at new out_after.outs ≡ taken_out nick text (served_at old out.outs)
-
+-- The user of a nickname quits with this text.
 abbrev pub Quits : List ℕ → List ℕ → ServerParts → Batch → ServerParts → Batch → Type 0
 Quits nick text old out new out_after =
     served_at new out_after.outs ≡ quit_by nick text (served_at old out.outs)
-
-abbrev pub EndsClient : List ℕ → List ℕ → ServerParts → Batch → ServerParts → Batch → Type 0
-EndsClient nick text old out new out_after =
-    served_at new out_after.outs ≡ client_ended nick text (served_at old out.outs)
-
--- A step of a client is taken, or steps one after another.
-abbrev pub Takes : Speaker → Act → ServerParts → Batch → ServerParts → Batch → Type 0
-Takes speaker act old out new out_after = served_at new out_after.outs ≡ step_told speaker.conn
-    (optional_now speaker.nick) act (served_at old out.outs)
-
-abbrev pub TakesAll : Speaker → List Act → ServerParts → Batch → ServerParts → Batch → Type 0
-TakesAll speaker acts old out new out_after =
-    served_at new out_after.outs ≡ steps_told speaker.conn (optional_now speaker.nick) acts
-    (served_at old out.outs)
-
--- The steps of a decision of a client are taken, and then the client is closed if it is to be.
-abbrev pub CarriesOut : Speaker → List Act → Bool → ServerParts → Batch → ServerParts → Batch
-    → Type 0
-CarriesOut speaker acts close old out new out_after =
-    served_at new out_after.outs ≡ closed_told close speaker.conn
-    (steps_told speaker.conn (optional_now speaker.nick) acts (served_at old out.outs))
 
 -- what was put out before stands in front
 abbrev pub behind_sent : List Sent → Served → Served

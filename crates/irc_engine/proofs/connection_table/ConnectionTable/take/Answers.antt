@@ -1,29 +1,22 @@
 use Rattle.std.proofs.Common.{refl}
 use Rattle.std.specs.Vec.{with_item}
-use Rattle.irc_engine.proofs.TableLaws.{found_slot, no_slot, dense_through, dense_kept}
-use Rattle.irc_engine.proofs.TableLaws.{sparse_through, sparse_absent}
+use Rattle.irc_engine.proofs.TableLaws.{found_slot, no_place, no_slot, place_kept, place_through}
 use Rattle.irc_engine.proofs.connection_table.ConnectionTable.take.Goals as goal
 
 pub returns-in-Some-clause-at : goal.returns-in-Some-clause-at
 returns-in-Some-clause-at c =
-    dense_through _ _ _ _ _ _ _ (found_slot _ _ _ c.in-Some.ensures.item.3.0
-    c.in-Some.ensures.item.1) refl refl c.take.ensures
+    place_through _ _ _ _ _ _ _ (found_slot _ _ _ c.in-Some.ensures.item.3.0
+    c.in-Some.ensures.item.1) refl
+    c.take.ensures
 
 pub returns-in-Some-clause-len : goal.returns-in-Some-clause-len
 returns-in-Some-clause-len c =
-    dense_kept c.args.self.now (record c.args.self.now {
-      dense = with_item c.args.self.now.dense
+    place_kept c.args.self.now (record c.args.self.now {
+      slots = with_item c.args.self.now.slots
           c.args.conn c.take.new.slot;
     }) c.args.conn c.in-Some.slot.now c.take.new.slot
-    (found_slot _ _ _ c.in-Some.ensures.item.3.0 c.in-Some.ensures.item.1) refl refl c.take.ensures
+    (found_slot _ _ _ c.in-Some.ensures.item.3.0
+    c.in-Some.ensures.item.1) refl c.take.ensures
 
-pub returns-in-Some-get_mut-clause-at : goal.returns-in-Some-get_mut-clause-at
-returns-in-Some-get_mut-clause-at c =
-    sparse_through _ _ _ _ _ _ _
-    (no_slot _ _ c.in-None.ensures.item.3) c.in-Some-get_mut.ensures.value refl
-    (c.get_mut-in-None.follows.holds _).3 c.take-in-Some-get_mut.ensures
-
-pub returns-in-None-get_mut-clause-at : goal.returns-in-None-get_mut-clause-at
-returns-in-None-get_mut-clause-at c =
-    sparse_absent _ _ _ _ _ (no_slot _ _ c.in-None.ensures.item.3) c.in-None-get_mut.ensures.value
-    refl c.get_mut-in-None.follows.holds-at-none refl
+pub returns-in-None-clause-at : goal.returns-in-None-clause-at
+returns-in-None-clause-at c = no_place _ _ _ _ _ (no_slot _ _ c.in-None.ensures.item.3) refl refl

@@ -1,9 +1,8 @@
-use Rattle.std.proofs.Common.{Option, Some, ◌∙◌, ap, sym, refl}
-use Rattle.std.specs.Option.{option_or}
+use Rattle.std.proofs.Common.{◌∙◌, ap, sym, refl}
 use Rattle.irc_stage.specs.View.{View}
 use Rattle.irc_server.specs.Served.{fault_of}
+use Rattle.irc_server.specs.Loops.States.{view_in}
 use Rattle.irc_server.proofs.WhatEventsDo.{failed_stays, kept_view, ran_out, refused, taken}
-use Rattle.irc_server.proofs.WhatEventsDo.{nothing_kept}
 use Rattle.irc_server.proofs.server.Server.handle.Goals as goal
 
 pub returns-in_default : goal.returns-in_default
@@ -22,24 +21,21 @@ returns-in_err-stage c = ran_out c.args.self.now _ c.in-Some.view c.args.event.n
     c.args.out.now.outs c.args.out.now.outs c.from_residual.result
     (sym c.view.ensures ∙ c.in-Some.is) (sym c.refusal.ensures ∙ c.in_default-refusal.is)
     c.from_residual.ensures.1
-    (nothing_kept c.taken.new.first c.taken.new.stage c.taken.ensures.no_first
-    c.taken.ensures.no_stage) refl
+    (ap view_in c.taken.ensures.failed) refl
 
 pub returns-in_err-act : goal.returns-in_err-act
 returns-in_err-act c = ran_out c.args.self.now _ c.in-Some.view c.args.event.now
     c.args.out.now.outs c.args.out.now.outs c.from_residual-in_err-act.result
     (sym c.view.ensures ∙ c.in-Some.is) (sym c.refusal.ensures ∙ c.in_default-refusal.is)
     c.from_residual-in_err-act.ensures.1
-    (nothing_kept c.taken.new.first c.taken.new.stage c.taken.ensures.no_first
-    c.taken.ensures.no_stage) refl
+    (ap view_in c.taken.ensures.failed) refl
 
 pub returns-in_err-end : goal.returns-in_err-end
 returns-in_err-end c = ran_out c.args.self.now _ c.in-Some.view c.args.event.now
     c.args.out.now.outs c.end.new.out.outs c.from_residual-in_err-end.result
     (sym c.view.ensures ∙ c.in-Some.is) (sym c.refusal.ensures ∙ c.in_default-refusal.is)
     c.from_residual-in_err-end.ensures.1
-    (nothing_kept c.taken.new.first c.taken.new.stage c.taken.ensures.no_first
-    c.taken.ensures.no_stage) c.in_err-end.ensures.refused
+    (ap view_in c.taken.ensures.failed) c.in_err-end.ensures.refused
 
 pub returns : goal.returns
 returns c = taken c.args.self.now _ c.in_ok-stage.stage c.in_ok-end.field-0 c.args.event.now
@@ -50,6 +46,4 @@ returns c = taken c.args.self.now _ c.in_ok-stage.stage c.in_ok-end.field-0 c.ar
     (sym c.view.ensures ∙ c.in-Some.is) (sym c.self.view_is ∙ c.in_ok-stage.ensures.taken))
     ∙ sym c.refusal.ensures ∙ c.in_default-refusal.is)
     c.in_ok-act.ensures c.in_ok-end.ensures.stage
-    (ap (λ (first : Option View). option_or first (Some c.in_ok-end.field-0))
-    c.taken.ensures.no_first)
-    c.in_ok-end.ensures.appended
+    refl c.in_ok-end.ensures.appended

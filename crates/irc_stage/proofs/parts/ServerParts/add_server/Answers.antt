@@ -6,7 +6,7 @@ use Rattle.irc_stage.proofs.parts.ServerParts.add_server.Goals as goal
 
 pub returns-in-Ok-clause-serving : goal.returns-in-Ok-clause-serving
 returns-in-Ok-clause-serving c =
-    let newcomer = c.args.newcomer in
+    let newcomer = c.args.newcomer.now in
     let stage = c.args.self.now in
     let known = added newcomer.link newcomer.uplink.now newcomer.name.now newcomer.distance
     newcomer.token newcomer.info.now stage.routes in

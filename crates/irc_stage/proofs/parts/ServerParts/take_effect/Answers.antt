@@ -1,90 +1,48 @@
 use Rattle.std.proofs.Common.{◌∙◌, ap, sym, if◌then◌else◌}
-use Rattle.irc_stage.specs.EffectTold.{changed}
-use Rattle.irc_stage.specs.Lemmas.Counting.{changed_stays, counted, said_elsewhere}
+use Rattle.irc_stage.specs.EffectTold.{changed, changed_if}
+use Rattle.irc_stage.specs.Lemmas.Counting.{changed_if_stays, counted, said_elsewhere}
 use Rattle.irc_stage.specs.Lemmas.Matching.{fit_by}
-use Rattle.irc_stage.specs.Loops.Parts.{clients_of, machine_at, served_at, view_of}
-use Rattle.irc_stage.proofs.EffectsShown.{changed_by, ready_after}
-use Rattle.irc_stage.proofs.ServesStill.{holds_at, serves_by}
-use Rattle.irc_stage.proofs.ToldOnLinks.{elsewhere_stays, spoken_by_link}
+use Rattle.irc_stage.specs.Lemmas.Outcomes.{on_ok}
+use Rattle.irc_stage.specs.Loops.Parts.{machine_at, served_at, view_of}
+use Rattle.irc_stage.proofs.ServesStill.{holds_at, serves_on_ok}
+use Rattle.irc_stage.proofs.ToldOnLinks.{spoken_by_link}
 use Rattle.irc_stage.proofs.parts.ServerParts.take_effect.Goals as goal
 
-pub hear-requires-clause-lent : goal.hear-requires-clause-lent
-hear-requires-clause-lent c =
-    let view = view_of c.args.self.now in
-    record {
-      indexed = c.requires.serving.ready.indexed;
-      own = c.requires.serving.ready.own_is;
-      named = c.named.ensures;
-      fit =
-          fit_by (machine_at c.args.self.now) c.args.effect.now c.requires.serving.matched
-          (counted view c.args.effect.now
-          (sym (c.counts.ensures view.peers c.named.ensures) ∙ c.if-not-counts.false)).0;
-    }
+pub change-requires-clause-fit : goal.change-requires-clause-fit
+change-requires-clause-fit c =
+    fit_by (machine_at c.args.self.now) c.args.effect.now c.requires.serving.matched
+    (counted (view_of c.args.self.now) c.args.effect.now
+    (sym c.counts.ensures ∙ c.if-not-counts.false)).0
 
-pub hear-requires-clause-spoken : goal.hear-requires-clause-spoken
-hear-requires-clause-spoken c =
+pub change-requires-clause-spoken : goal.change-requires-clause-spoken
+change-requires-clause-spoken c =
     let view = view_of c.args.self.now in
     spoken_by_link c.link-origin.result c.args.link c.link-origin.ensures
     (machine_at c.args.self.now) c.args.effect.now
     (said_elsewhere view c.args.effect.now c.requires.serving.matched
-    (counted view c.args.effect.now
-    (sym (c.counts.ensures view.peers c.named.ensures) ∙ c.if-not-counts.false)).1)
-
-pub settle-requires-clause-possible : goal.settle-requires-clause-possible
-settle-requires-clause-possible c =
-    let view = view_of c.args.self.now in
-    (counted view c.args.effect.now
-    (sym (c.counts.ensures view.peers c.named.ensures) ∙ c.if-not-counts.false)).0
-
-pub settle-requires-clause-apart : goal.settle-requires-clause-apart
-settle-requires-clause-apart c =
-    let view = view_of c.args.self.now in
-    (fit_by (machine_at c.args.self.now) c.args.effect.now c.requires.serving.matched
-    (counted view c.args.effect.now
-    (sym (c.counts.ensures view.peers c.named.ensures) ∙ c.if-not-counts.false)).0).apart
+    (counted view c.args.effect.now (sym c.counts.ensures ∙ c.if-not-counts.false)).1)
 
 pub returns-then-not-counts-clause-ok : goal.returns-then-not-counts-clause-ok
 returns-then-not-counts-clause-ok c =
-    let view = view_of c.args.self.now in
     let old = served_at c.args.self.now c.args.out.now.outs in
     sym (ap (λ b. if b then changed c.args.effect.now old else old)
-    (sym (c.counts.ensures view.peers c.named.ensures) ∙ c.if-not-counts.true))
-
-pub returns-then-is_elsewhere-clause-ok : goal.returns-then-is_elsewhere-clause-ok
-returns-then-is_elsewhere-clause-ok c =
-    let view = view_of c.args.self.now in
-    let old = served_at c.args.self.now c.args.out.now.outs in
-    elsewhere_stays view c.args.effect.now
-    (sym (c.is_elsewhere.ensures view.peers c.named.ensures) ∙ c.if-is_elsewhere.true)
-    c.args.out.now.outs
-    ∙ sym (ap (λ b. if b then changed c.args.effect.now old else old)
-    (sym (c.counts.ensures view.peers c.named.ensures) ∙ c.if-not-counts.false))
+    (sym c.counts.ensures ∙ c.if-not-counts.true))
 
 pub returns-clause-ok : goal.returns-clause-ok
 returns-clause-ok c =
-    let view = view_of c.args.self.now in
+    let effect = c.args.effect.now in
     let old = served_at c.args.self.now c.args.out.now.outs in
-    changed_by c.args.self.now c.args.effect.now c.settle.new.room c.in_ok-settle.ensures.after
-    (clients_of c.settle.new.clients) c.in_ok-settle.ensures.clients c.args.out.now.outs
-    c.hear.new.out.outs c.in_ok-hear.ensures.shown
-    (sym (c.is_elsewhere.ensures view.peers c.named.ensures) ∙ c.if-is_elsewhere.false)
-    ∙ sym (ap (λ b. if b then changed c.args.effect.now old else old)
-    (sym (c.counts.ensures view.peers c.named.ensures) ∙ c.if-not-counts.false))
+    on_ok c.change.result _ _
+    (λ is. is
+    ∙ sym (ap (λ b. if b then changed effect old else old)
+    (sym c.counts.ensures ∙ c.if-not-counts.false)))
+    c.change.ensures.ok
 
 pub returns-clause-serving : goal.returns-clause-serving
 returns-clause-serving c =
-    let view = view_of c.args.self.now in
-    let effect = c.args.effect.now in
     let old = served_at c.args.self.now c.args.out.now.outs in
-    serves_by _ c.hear.new.out.outs (changed effect old)
-    (changed_stays effect old (holds_at c.args.self.now c.args.out.now.outs c.requires.serving)
-    (sym (c.counts.ensures view.peers c.named.ensures) ∙ c.if-not-counts.false))
-    (ready_after c.args.self.now effect c.settle.new.room
-    c.in_ok-settle.ensures.after c.requires.serving.ready c.in_ok-settle.ensures.sound
-    c.settle.new.clients c.in_ok-settle.ensures.indexed c.in_ok-settle.ensures.by_nick
-    c.hear.new.self c.in_ok-hear.ensures.so c.settle.new.ways
-    (c.in_ok-settle.ensures.right c.args.self.now.routes c.requires.serving.ready.branches))
-    (changed_by c.args.self.now effect c.settle.new.room c.in_ok-settle.ensures.after
-    (clients_of c.settle.new.clients) c.in_ok-settle.ensures.clients c.args.out.now.outs
-    c.hear.new.out.outs c.in_ok-hear.ensures.shown
-    (sym (c.is_elsewhere.ensures view.peers c.named.ensures) ∙ c.if-is_elsewhere.false))
+    serves_on_ok c.change.result c.change.new.self c.change.new.out.outs
+    (changed_if c.args.effect.now old)
+    (changed_if_stays c.args.effect.now old
+    (holds_at c.args.self.now c.args.out.now.outs c.requires.serving))
+    c.change.ensures.ready (returns-clause-ok c)
