@@ -165,7 +165,7 @@ module _ {W : Type 0} (is_after : W → List Call → Type 0) (pieces : PiecesCo
     engine = step.engine
 
     abbrev pub start : Moment W
-    start = record engine.now { pipe = step.turn.pipe }
+    start = record engine.now { wire = step.turn.wire }
 
     abbrev pub mid_moment : Moment W
     mid_moment = step.turn.does.between

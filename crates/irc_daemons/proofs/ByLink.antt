@@ -166,7 +166,7 @@ module _ {W : Type 0} (is_after : W → List Call → Type 0) (pieces : PiecesCo
     engine = step.engine
 
     abbrev start : Moment W
-    start = record engine.now { pipe = step.turn.pipe }
+    start = record engine.now { wire = step.turn.wire }
 
     abbrev mid : Moment W
     mid = step.turn.does.between

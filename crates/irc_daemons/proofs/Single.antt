@@ -125,7 +125,7 @@ pub real_or_none : (framer : Option Begun) → IsRealIf framer → IsRealBegun (
 real_or_none None real = new_is_real
 real_or_none (Some begun) real = real begun refl
 
--- three stretches of bytes, as they go from the server to the pipe
+-- three stretches of bytes, as they go from the server to the wire
 pub moved : (sent held more gone left : List ℕ) → held ++ more ≡ gone ++ left
     → (sent ++ held) ++ more ≡ (sent ++ gone) ++ left
 moved sent held more gone left is = append_assoc sent held more ∙ ap (λ xs. sent ++ xs) is

@@ -76,7 +76,7 @@ module _ {W : Type 0} (is_after : W → List Call → Type 0) where
       (Connect conn host) old mid starts)
   client_starts room conn host old mid (in_use used ran) = run_on old mid ran
   client_starts room conn host old mid
-      (makes_connection between free server journal pipe lost waiting size set ran) = record {
+      (makes_connection between free server journal wire lost waiting size set ran) = record {
         begin = between;
         exchanges = [];
         given = Connect conn host ∷ [];
@@ -96,7 +96,7 @@ module _ {W : Type 0} (is_after : W → List Call → Type 0) where
       (LinkUp conn called) old mid starts)
   link_starts room conn called old mid (in_use used ran) = run_on old mid ran
   link_starts room conn called old mid
-      (makes_connection between free server journal pipe lost waiting size set ran) = record {
+      (makes_connection between free server journal wire lost waiting size set ran) = record {
         begin = between;
         exchanges = [];
         given = LinkUp conn called ∷ [];
@@ -145,10 +145,10 @@ module _ {W : Type 0} (is_after : W → List Call → Type 0) where
   came_of sizes Idle old mid ran q other = refl
   came_of sizes (Client conn host) old mid (in_use used ran) q other = refl
   came_of sizes (Client conn host) old mid
-      (makes_connection between free server journal pipe lost waiting size set ran) q other = refl
+      (makes_connection between free server journal wire lost waiting size set ran) q other = refl
   came_of sizes (Linked conn called) old mid (in_use used ran) q other = refl
   came_of sizes (Linked conn called) old mid
-      (makes_connection between free server journal pipe lost waiting size set ran) q other = refl
+      (makes_connection between free server journal wire lost waiting size set ran) q other = refl
   came_of sizes (Readable conn) old mid (not_open closed ran) q other = refl
   came_of sizes (Readable conn) old mid (read_once room answer bytes is_open as_large ran) q other =
       by (nat_eq conn q) refl

@@ -41,7 +41,7 @@ module _ {W : Type 0} (is_after : W → List Call → Type 0) where
       (old new : Moment W) → Starts is_after kind room conn event old new → Doings
   starts_did kind room conn event old new (in_use used ran) = ran_did [] [] nothing_of old new ran
   starts_did kind room conn event old new
-      (makes_connection between free server journal pipe lost waiting size set ran) =
+      (makes_connection between free server journal wire lost waiting size set ran) =
       ran_did [] (event ∷ []) nothing_of between new ran
 
   abbrev pub reads_did : (conn : ℕ) (old new : Moment W) → Reads is_after conn old new → Doings
@@ -64,7 +64,7 @@ module _ {W : Type 0} (is_after : W → List Call → Type 0) where
       → Doings
   turn_did sizes old new turn =
       and_then (answers_did sizes turn.report
-      (record old { pipe = turn.pipe }) turn.does.between turn.does.answers)
+      (record old { wire = turn.wire }) turn.does.between turn.does.answers)
       (ran_did turn.does.writes.exchanges [] nothing_of turn.does.between new turn.does.writes.ran)
 
   -- ---- who has come
@@ -73,7 +73,7 @@ module _ {W : Type 0} (is_after : W → List Call → Type 0) where
       → Starts is_after kind room conn event old new → Option ℕ
   started kind room conn event old new (in_use used ran) = None
   started kind room conn event old new
-      (makes_connection between free server journal pipe lost waiting size set ran) = Some conn
+      (makes_connection between free server journal wire lost waiting size set ran) = Some conn
 
   abbrev pub newcomer_in : (sizes : OutboxSizes) (report : Ready) (old new : Moment W)
       → Answers is_after sizes report old new → Option ℕ
@@ -88,7 +88,7 @@ module _ {W : Type 0} (is_after : W → List Call → Type 0) where
   abbrev pub newcomer : (sizes : OutboxSizes) (old new : Moment W) → Turn is_after sizes old new
       → Option ℕ
   newcomer sizes old new turn = newcomer_in sizes turn.report
-      (record old { pipe = turn.pipe }) turn.does.between turn.does.answers
+      (record old { wire = turn.wire }) turn.does.between turn.does.answers
 
 -- ---- what was read and written, of a connection that may not be there
 

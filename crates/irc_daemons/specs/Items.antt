@@ -97,7 +97,7 @@ module _ {W : Type 0} (is_after : W → List Call → Type 0) where
   StartsSpaced later kind room conn event old new (in_use used ran) =
       RanSpaced later [] [] nothing_of old new ran
   StartsSpaced later kind room conn event old new
-      (makes_connection between free server journal pipe lost waiting size set ran) =
+      (makes_connection between free server journal wire lost waiting size set ran) =
       RanSpaced later [] (event ∷ []) nothing_of between new ran
 
   abbrev pub ReadsSpaced : (later : Bool) (conn : ℕ) (old new : Moment W)
@@ -125,7 +125,7 @@ module _ {W : Type 0} (is_after : W → List Call → Type 0) where
       AnswersSpaced
       (has_item (ran_did is_after turn.does.writes.exchanges [] nothing_of turn.does.between new
       turn.does.writes.ran).events) sizes turn.report
-      (record old { pipe = turn.pipe }) turn.does.between turn.does.answers
+      (record old { wire = turn.wire }) turn.does.between turn.does.answers
       × RanSpaced false turn.does.writes.exchanges [] nothing_of turn.does.between new
       turn.does.writes.ran
 

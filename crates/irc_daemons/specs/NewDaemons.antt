@@ -15,10 +15,10 @@ use Rattle.irc_daemons.specs.Daemons.{Daemons}
 
 -- an engine over any wire for a new server of this configuration
 pub record IsNewOf {W : Type 0} (config : Config) (engine : EngineView W) : Type 0 where
-  pub pipe : W
+  pub wire : W
   pub client_room : ℕ
   pub link_room : ℕ
-  pub is_new : IsNew (Some (made_view config)) pipe client_room link_room engine
+  pub is_new : IsNew (Some (made_view config)) wire client_room link_room engine
 
 -- at one place
 abbrev pub IsNewIf : {W : Type 0} → Option Config → Option (EngineView W) → Type 0
