@@ -107,7 +107,7 @@ by_user room place who message Q so (Some me) is =
 
 pub decided_so : (room : Room) (place : Place) (who : List ℕ) (message : Parsed)
     (Q : Decided → Type 0) → IsSoDecided room who message.params Q
-        → Q (decide room place who message)
+    → Q (decide room place who message)
 unfolding decide
 decided_so room place who message Q so =
     by_user room place who message Q so (row room.users (key who)) refl

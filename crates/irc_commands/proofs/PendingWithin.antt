@@ -56,21 +56,21 @@ registering_is_sendable room place pending line message within server words =
       told = λ pending within line. (within, tt);
       closed = λ pending within line. (within, tt);
       added = λ pending within nickname username is named free. let name : IsNamed username =
-      subst (λ (o : Option (List ℕ)). IfSome o IsNamed) named within.name in (
-        within,
-        record {
-          now = record {
-            nick = subst (λ (o : Option (List ℕ)). IfSome o IsNick) is within.nick;
-            name = name.clean;
-            name_some = name.some;
-            host = within.host;
-            real_fits = within.real_fits;
-            real_carried = within.real_carried;
-            home = server;
-          };
-          later = tt;
-        },
-      );
+          subst (λ (o : Option (List ℕ)). IfSome o IsNamed) named within.name in (
+            within,
+            record {
+              now = record {
+                nick = subst (λ (o : Option (List ℕ)). IfSome o IsNick) is within.nick;
+                name = name.clean;
+                name_some = name.some;
+                host = within.host;
+                real_fits = within.real_fits;
+                real_carried = within.real_carried;
+                home = server;
+              };
+              later = tt;
+            },
+          );
     })
     (record {
       chosen = λ pending nickname within is. record {

@@ -60,8 +60,8 @@ pub record IsSoRegistering (room : Room) (place : Place) (P : Pending → Type 0
       })
 
 module _ (room : Room) (place : Place) (P : Pending → Type 0) (Q : Registered → Type 0)
-    (so : IsSoRegistering room place P Q) (params : List (List ℕ)) (keeps : IsKeptGiving params P)
-    where
+    (so : IsSoRegistering room place P Q) (params : List (List ℕ))
+    (keeps : IsKeptGiving params P) where
   by_names : (pending : Pending) → P pending → (nickname username : Option (List ℕ))
       → pending.nick ≡ nickname → pending.user ≡ username
       → Q (completed room place pending nickname username)
