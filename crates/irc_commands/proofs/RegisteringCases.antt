@@ -60,73 +60,73 @@ pub record IsSoRegistering (room : Room) (place : Place) (P : Pending → Type 0
       })
 
 module _ (room : Room) (place : Place) (P : Pending → Type 0) (Q : Registered → Type 0)
-    (so : IsSoRegistering room place P Q) (params : List (List ℕ)) (keeps : IsKeptGiving params P)
-  where
-    by_names : (pending : Pending) → P pending → (nickname username : Option (List ℕ))
-        → pending.nick ≡ nickname → pending.user ≡ username
-        → Q (completed room place pending nickname username)
-    by_names pending given None username is named = so.silent pending given
-    by_names pending given (Some nickname) None is named = so.silent pending given
-    by_names pending given (Some nickname) (Some username) is named =
-        by_test Q (has_user room nickname)
-        (replies (record pending { nick = None }) (Answer (NicknameInUse nickname) ∷ []))
-        (record {
-          pending = pending;
-          steps = welcomed place (user_of place pending nickname username);
-          registered = true;
-          close = false;
-        })
-        (λ taken. so.answered (record pending { nick = None }) (keeps.lost pending given) _)
-        (λ free. so.added pending given nickname username is named free)
+    (so : IsSoRegistering room place P Q) (params : List (List ℕ))
+    (keeps : IsKeptGiving params P) where
+  by_names : (pending : Pending) → P pending → (nickname username : Option (List ℕ))
+      → pending.nick ≡ nickname → pending.user ≡ username
+      → Q (completed room place pending nickname username)
+  by_names pending given None username is named = so.silent pending given
+  by_names pending given (Some nickname) None is named = so.silent pending given
+  by_names pending given (Some nickname) (Some username) is named =
+      by_test Q (has_user room nickname)
+      (replies (record pending { nick = None }) (Answer (NicknameInUse nickname) ∷ []))
+      (record {
+        pending = pending;
+        steps = welcomed place (user_of place pending nickname username);
+        registered = true;
+        close = false;
+      })
+      (λ taken. so.answered (record pending { nick = None }) (keeps.lost pending given) _)
+      (λ free. so.added pending given nickname username is named free)
 
-    completing : (pending : Pending) → P pending → Q (complete room place pending)
-    completing pending given = by_names pending given pending.nick pending.user refl refl
+  completing : (pending : Pending) → P pending → Q (complete room place pending)
+  completing pending given = by_names pending given pending.nick pending.user refl refl
 
-    choosing : (pending : Pending) → P pending → (nickname : List ℕ)
-        → Q (nick_chosen room place pending nickname)
-    choosing pending given nickname =
-        let in_use = replies pending (Answer (NicknameInUse nickname) ∷ []) in
-        let chosen = complete room place (record pending { nick = Some nickname }) in
-        by_test Q (not (is_nick nickname))
-        (replies pending (Answer (ErroneousNickname (client_words nickname)) ∷ []))
-        (cond (has_user room nickname) in_use chosen) (λ erroneous. so.answered pending given _)
-        (λ fine. by_test Q (has_user room nickname) in_use chosen
-        (λ taken. so.answered pending given _)
-        (λ free. completing (record pending { nick = Some nickname })
-        (keeps.chosen pending nickname given (not-false (is_nick nickname) fine))))
+  choosing : (pending : Pending) → P pending → (nickname : List ℕ)
+      → Q (nick_chosen room place pending nickname)
+  choosing pending given nickname =
+      let in_use = replies pending (Answer (NicknameInUse nickname) ∷ []) in
+      let chosen = complete room place (record pending { nick = Some nickname }) in
+      by_test Q (not (is_nick nickname))
+      (replies pending (Answer (ErroneousNickname (client_words nickname)) ∷ []))
+      (cond (has_user room nickname) in_use chosen) (λ erroneous. so.answered pending given _)
+      (λ fine. by_test Q (has_user room nickname) in_use chosen
+      (λ taken. so.answered pending given _)
+      (λ free. completing (record pending { nick = Some nickname })
+      (keeps.chosen pending nickname given (not-false (is_nick nickname) fine))))
 
-    by_nick : (pending : Pending) → P pending → (words : List (List ℕ))
-        → Q (nick_row room place pending words)
-    by_nick pending given [] = so.answered pending given _
-    by_nick pending given ([] ∷ more) = so.answered pending given _
-    by_nick pending given ((b ∷ bytes) ∷ more) = choosing pending given (b ∷ bytes)
+  by_nick : (pending : Pending) → P pending → (words : List (List ℕ))
+      → Q (nick_row room place pending words)
+  by_nick pending given [] = so.answered pending given _
+  by_nick pending given ([] ∷ more) = so.answered pending given _
+  by_nick pending given ((b ∷ bytes) ∷ more) = choosing pending given (b ∷ bytes)
 
-    by_user : (pending : Pending) → P pending → (words : List (List ℕ)) → params ≡ words
-        → Q (user_row room place pending words)
-    by_user pending given [] is = so.answered pending given _
-    by_user pending given (username ∷ []) is = so.answered pending given _
-    by_user pending given (username ∷ mode ∷ []) is = so.answered pending given _
-    by_user pending given (username ∷ mode ∷ unused ∷ []) is = so.answered pending given _
-    by_user pending given (username ∷ mode ∷ unused ∷ real ∷ more) is =
-        completing (record pending { user = Some (clean_user username); real = cut_real real })
-        (keeps.named pending username mode unused real more given is)
+  by_user : (pending : Pending) → P pending → (words : List (List ℕ)) → params ≡ words
+      → Q (user_row room place pending words)
+  by_user pending given [] is = so.answered pending given _
+  by_user pending given (username ∷ []) is = so.answered pending given _
+  by_user pending given (username ∷ mode ∷ []) is = so.answered pending given _
+  by_user pending given (username ∷ mode ∷ unused ∷ []) is = so.answered pending given _
+  by_user pending given (username ∷ mode ∷ unused ∷ real ∷ more) is =
+      completing (record pending { user = Some (clean_user username); real = cut_real real })
+      (keeps.named pending username mode unused real more given is)
 
-    pinged : (pending : Pending) → P pending → (words : List (List ℕ))
-        → Q (replies pending (ping_steps place words))
-    unfolding ping_steps
-    pinged pending given [] = so.answered pending given _
-    pinged pending given (word ∷ more) = so.told pending given _
+  pinged : (pending : Pending) → P pending → (words : List (List ℕ))
+      → Q (replies pending (ping_steps place words))
+  unfolding ping_steps
+  pinged pending given [] = so.answered pending given _
+  pinged pending given (word ∷ more) = so.told pending given _
 
-    by_row : (pending : Pending) → P pending → (which : Option Command)
-        → Q (pending_row_of room place pending params which)
-    by_row pending given (Some command.Pass) = so.silent pending given
-    by_row pending given (Some command.Pong) = so.silent pending given
-    by_row pending given (Some command.Nick) = by_nick pending given params
-    by_row pending given (Some command.User) = by_user pending given params refl
-    by_row pending given (Some command.Ping) = pinged pending given params
-    by_row pending given (Some command.Quit) = so.closed pending given _
-    by_row pending given (Some other) = so.answered pending given _
-    by_row pending given None = so.answered pending given _
+  by_row : (pending : Pending) → P pending → (which : Option Command)
+      → Q (pending_row_of room place pending params which)
+  by_row pending given (Some command.Pass) = so.silent pending given
+  by_row pending given (Some command.Pong) = so.silent pending given
+  by_row pending given (Some command.Nick) = by_nick pending given params
+  by_row pending given (Some command.User) = by_user pending given params refl
+  by_row pending given (Some command.Ping) = pinged pending given params
+  by_row pending given (Some command.Quit) = so.closed pending given _
+  by_row pending given (Some other) = so.answered pending given _
+  by_row pending given None = so.answered pending given _
 
 pub registering_within : (room : Room) (place : Place) (pending : Pending) (message : Parsed)
     (P : Pending → Type 0) (Q : Registered → Type 0) → IsSoRegistering room place P Q

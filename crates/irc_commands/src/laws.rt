@@ -60,7 +60,6 @@ pub fn decided_is_sendable()
 
 /// What a connection that is not registered gives keeps to the limits, line by line, where what it
 /// has given did; and the user that it becomes is one that another server can be told of.
-#[tactic(auto, using(crate::proofs::PendingWithin::registering_is_sendable))]
 pub fn registering_is_sendable()
     ensures { RegisteringIsSendable }
 {}
