@@ -26,4 +26,4 @@ place_is_worlds s links routes t fixed forest ends right among =
           name) i;
     })
     ∙ sym (ap
-          (λ o. option_map_or (joined_place s.settings links) o (alone t says_nothing)) setting.is)
+    (λ o. option_map_or (joined_place s.settings links) o (alone t says_nothing)) setting.is)

@@ -30,6 +30,6 @@ greeting_size all name info all_is name_fits info_fits = omega arith
 pub greeting_fits : GreetingFits
 greeting_fits known name_so info_so =
     greeting_size (length (joined_text (greeting known))) (length known.name)
-        (length known.about.info)
+    (length known.about.info)
     (length-joined_text (greeting known))
     (server-fits known.name name_so) (info_short known.about.info info_so)

@@ -34,7 +34,7 @@ named (s ∷ settings) all links server = by (tell s.name server) (named setting
   where
     by : Telling s.name server → (option_map_or (joined_place all links)
         (find (λ (t : Setting). same t.name server) settings) (alone server says_nothing)).name
-            ≡ server
+        ≡ server
         → (option_map_or (joined_place all links)
         (cond (same s.name server) (Some s) (find (λ (t : Setting). same t.name server) settings))
         (alone server says_nothing)).name ≡ server

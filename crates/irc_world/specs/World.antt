@@ -92,7 +92,7 @@ joined_place settings links own = record {
 abbrev pub place_at : List Setting → List Link → Name → Place
 place_at settings links server =
     option_map_or (joined_place settings links) (setting_of settings server)
-        (alone server says_nothing)
+    (alone server says_nothing)
 
 -- the room machine of a part, as one of its servers' clients meet it
 abbrev pub machine_at : List Setting → World → Name → RoomMachine

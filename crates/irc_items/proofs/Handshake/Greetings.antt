@@ -85,7 +85,7 @@ pub greeting_opening : (known : Known) → IsInfo known.about.info → (has_pass
 unfolding opening_of
 greeting_opening known info has_password = ap (λ b.
     Some (greeting_opens has_password (if b then Some (known.name, known.about.info)
-            else None))) info
+    else None))) info
 
 -- ---- what a server that is not met hears of it
 
@@ -131,7 +131,7 @@ module _ (laws : IsKnownOfHandshakes) (view : View) (k : ℕ) (end : End) (known
       by true e = met_or (refusal (password_for view known.name)
           (unwrap_or end.password []) view.routes known.name) refl
           (heard_is ∙ ap
-                (λ b. opened view end (greeting_opens b (Some (known.name, known.about.info)))) e
+          (λ b. opened view end (greeting_opens b (Some (known.name, known.about.info)))) e
           ∙ ap (λ b. opened view end (if b then Ok (opening.Greeting known.name known.about.info)
           else Err reason.UnknownPeer)) name)
 

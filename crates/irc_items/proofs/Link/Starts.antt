@@ -284,7 +284,7 @@ module _ (known : IsKnownOfSides) {s : ItemSetting} {l : Link} {world : World}
               ∙ ap (λ (o : Option (List ℕ)). opened view end
               (greeting_opens (is_some o) (Some ((routes b).name, (routes b).about.info)))) given
               ∙ ap (λ n. opened view end
-                    (greeting_opens true (Some (n, (routes b).about.info)))) b_name
+              (greeting_opens true (Some (n, (routes b).about.info)))) b_name
               ∙ ap (λ i. opened view end (greeting_opens true (Some (b, i)))) b_info
               ∙ ap (λ c. opened view end (if c then Ok (opening.Greeting b (info b))
               else Err reason.UnknownPeer)) (is.fixed.servers.named b is.b_among)
