@@ -45,7 +45,7 @@ fn plain_line<'a>(command: &'a [u8], middle: &'a [&'a [u8]], last: Option<&'a [u
 /// How a server describes itself.
 #[tactic(auto, using(crate::proofs::OwnName::own_info_known))]
 fn own_info(routes: &Routes) -> &Info
-    ensures { result.now ≡ routes.now.info }
+    ensures { result.now ≡ routes.now.about.info }
 {
     match routes.info(routes.name().as_bytes()) {
         Some(info) => info,
