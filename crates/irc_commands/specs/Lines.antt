@@ -13,6 +13,7 @@ use Rattle.irc_numerics.specs.declared.replies.Reply.TheVariants.{NotRegistered,
 use Rattle.irc_room.specs.effect.Target.TheVariants as target
 use Rattle.irc_room.specs.effect.Effect.TheVariants.{Quit, Say}
 use Rattle.irc_room.specs.Room.{Room}
+use Rattle.irc_routes.specs.About.{says}
 use Rattle.irc_routes.specs.Place.{Place, alone}
 use Rattle.irc_acts.specs.declared.act.Act.{Act}
 use Rattle.irc_acts.specs.declared.act.Act.TheVariants.{Answer, Raw, Do}
@@ -37,7 +38,7 @@ abbrev pub al_alone : Room
 al_alone = record { users = alter (key (codes "al")) (λ _. Some al) empty; channels = empty }
 
 abbrev pub a_net : Place
-a_net = alone (codes "a.net") (codes "Test server") (codes "2024-01-01")
+a_net = alone (codes "a.net") (says (codes "Test server") (codes "2024-01-01"))
 
 abbrev pub line : List ℕ → List (List ℕ) → Parsed
 line command params = record { prefix = None; command = command; params = params }
