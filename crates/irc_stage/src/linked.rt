@@ -223,9 +223,13 @@ impl ServerParts {
         ensures { result ≡ counts (view_of self.now) effect.now }
     {
         let named = self.room.named(effect);
-        does(effect, named)
-            && is_free(&self.room, effect)
-            && !is_of_here(&self.routes, named, effect)
+        if !does(effect, named) {
+            return false;
+        }
+        if !is_free(&self.room, effect) {
+            return false;
+        }
+        !is_of_here(&self.routes, named, effect)
     }
 }
 
