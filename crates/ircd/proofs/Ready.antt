@@ -3,27 +3,27 @@ use Rattle.std.proofs.Common.{◌≡◌, ◌∙◌, ℕ, Option, Result, Ok, Err
 use Rattle.std.proofs.Common.{refl, sym, subst}
 use Rattle.std.specs.Prelude.{⊤}
 use Rattle.std.specs.Io.KnownBytes.{Appends}
-use Rattle.irc_outbox.specs.Calls.{Call}
 use Rattle.irc_sockets.specs.declared.mio_wire.MioWire.{MioWire}
-use Rattle.irc_engine.specs.declared.engine.EngineFault.{EngineFault}
 use Rattle.irc_engine.specs.EngineView.{EngineViewOf}
-use Rattle.irc_engine.specs.Telling.{RunsTellingBy}
-use Rattle.irc_engine.specs.Laws.Tellings.{runs_tell_some}
 use Rattle.irc_journal.specs.Saying.{AreSomeSaid}
 use Rattle.irc_endings.specs.declared.fault.Stop.{Stop}
 use Rattle.irc_endings.specs.declared.fault.Stop.TheVariants.{Usage, BadScript, BadConfiguration}
 use Rattle.irc_endings.specs.declared.fault.Stop.TheVariants.{Failed}
+use Rattle.irc_settings.specs.declared.settings.Settings.{Settings}
+use Rattle.ircd.specs.declared.rereading.Watch.{Watch}
 use Rattle.ircd.specs.declared.setup.Setup.{Setup}
 use Rattle.ircd.specs.Loops.Manners.{FindsManner}
 use Rattle.ircd.specs.Loops.Turns.{IsOfFile, TakesTurns}
 use Rattle.std.specs.declared.net.socket_addr.SocketAddr.{SocketAddr}
 use Rattle.ircd.specs.ClosedDoors.{SaysClosed, SaysFault}
-use Rattle.ircd.specs.Serving.{IsCutShort, IsFailed, IsOpened, IsReadSetup, IsTextOf, IsUnopened}
-use Rattle.ircd.specs.Serving.{Serves, ServesFile, ServesText, listening_of}
-use Rattle.ircd.specs.Serving.{front_dues, front_server, Front, IsAnswered}
+use Rattle.ircd.specs.Serving.{IsCutShort, IsFailed, IsOpened, IsReadSettings, IsTextOf, IsUnopened}
+use Rattle.ircd.specs.Serving.{SetsUp}
+use Rattle.irc_settings.specs.Configuration.{AreSettingsOf}
+use Rattle.ircd.specs.Serving.{Serves, ServesFile, ServesText}
+use Rattle.ircd.specs.Serving.{Front, FrontTurns}
 use Rattle.ircd.specs.Serving.IsCutShort.{printing, unopened, unprinted}
 use Rattle.ircd.specs.Serving.IsFailed.{failed_opening, failed_serving}
-use Rattle.ircd.specs.Serving.{bad_motd, bad_text}
+use Rattle.ircd.specs.Serving.{bad_motd, bad_text, refused}
 use Rattle.ircd.specs.Serving.IsUnopened.{clients_closed, links_closed, untold}
 use Rattle.irc_sockets.specs.Listening.{IsFaultOf}
 use Rattle.irc_sockets.specs.declared.listen_fault.ListenFault.{ListenFault}
@@ -41,53 +41,69 @@ nothing_said : (held : Option (List ℕ)) → AreSomeSaid held held
 nothing_said held = ([], refl)
 
 -- `ready` is cut short
-module _ {W : Type 0} (is_after : W → List Call → Type 0) (turns : ℕ)
-    (old new : EngineViewOf W Front) (held after said said_after : Option (List ℕ)) where
+module _ (settings : Settings) (room turns : ℕ) (old new : EngineViewOf MioWire Front)
+    (held after said said_after : Option (List ℕ)) where
   cut_by : (r : Result (Unit {0}) Stop) → Wrote held after ready_text
       → AreSomeSaid said said_after → IsErrAnd r (λ stop. stop ≡ Failed)
-      → Serves is_after turns old new held after said said_after r
+      → Serves settings room turns old new held after said said_after r
   cut_by (Ok _) tells some failed = absurd failed
   cut_by (Err stop) tells some failed = subst (λ s.
-      Serves is_after turns old new held after said said_after (Err s)) (sym failed) (tells, some)
+      Serves settings room turns old new held after said said_after (Err s)) (sym failed)
+      (tells, some)
 
   -- it was printed, and turns were taken
-  pub ready_said : (r : Result (Unit {0}) Stop) → Appends held after ready_text
-      → Wrote held after ready_text → TakesTurns is_after old turns new said said_after r
-      → Serves is_after turns old new held after said said_after r
-  ready_said (Ok _) appended tells gone = (appended, gone)
-  ready_said (Err stop) appended tells gone = cut_by (Err stop) tells gone.1 gone.0
+  pub ready_said : (watch : Watch) (r : Result (Unit {0}) Stop) → watch.settings ≡ settings
+      → watch.client_room ≡ room → Appends held after ready_text → Wrote held after ready_text
+      → TakesTurns watch old turns new said said_after r
+      → Serves settings room turns old new held after said said_after r
+  ready_said watch (Ok _) same fits appended tells gone = (
+    appended,
+    subst (λ s. FrontTurns s room old said turns new said_after) same
+        (subst (λ n. FrontTurns watch.settings n old said turns new said_after) fits gone),
+  )
+  ready_said watch (Err stop) same fits appended tells gone = cut_by (Err stop) tells gone.1 gone.0
 
-pub ready_cut : {W : Type 0} (is_after : W → List Call → Type 0) (turns : ℕ)
-    (old new : EngineViewOf W Front) (held after said : Option (List ℕ))
-    (r : Result (Unit {0}) Stop) → Wrote held after ready_text → IsErrAnd r (λ stop. stop ≡ Failed)
-    → Serves is_after turns old new held after said said r
-ready_cut is_after turns old new held after said r tells failed =
-    cut_by is_after turns old new held after said said r tells (nothing_said said) failed
+pub ready_cut : (settings : Settings) (room turns : ℕ) (old new : EngineViewOf MioWire Front)
+    (held after said : Option (List ℕ)) (r : Result (Unit {0}) Stop) → Wrote held after ready_text
+    → IsErrAnd r (λ stop. stop ≡ Failed)
+    → Serves settings room turns old new held after said said r
+ready_cut settings room turns old new held after said r tells failed =
+    cut_by settings room turns old new held after said said r tells (nothing_said said) failed
 
--- a turn is not taken
-pub turns_stopped : {W : Type 0} (is_after : W → List Call → Type 0) (old : EngineViewOf W Front)
-    (turns : ℕ) (new : EngineViewOf W Front) (said said_after : Option (List ℕ))
-    (r : Result (Unit {0}) EngineFault) → RunsTellingBy is_after front_server IsAnswered front_dues
-    old said turns new said_after r
-    → TakesTurns is_after old turns new said said_after (Err Failed)
-turns_stopped is_after old turns new said said_after r runs =
-    (refl, runs_tell_some is_after old said turns new said_after r runs)
-
--- a text sets nothing up
+-- a text is no configuration
 stopped_by : (text : List ℕ) (turns : ℕ) (stop : Stop) (held said : Option (List ℕ))
-    → IsReadSetup text (Err stop) → ServesText text turns (Err stop) held held said said
+    → IsReadSettings text (Err stop) → ServesText text turns (Err stop) held held said said
 stopped_by text turns BadConfiguration held said bad = (bad_text bad, refl, refl)
 stopped_by text turns Failed held said bad = unprinted refl refl
 stopped_by text turns Usage held said bad = absurd bad
 stopped_by text turns (BadScript line) held said bad = absurd bad
 
 pub text_refused : (text : List ℕ) (turns : ℕ) (r : Result (Unit {0}) Stop) (stop : Stop)
-    (held said : Option (List ℕ)) → IsReadSetup text (Err stop) → IsErrAnd r (λ e. e ≡ stop)
+    (held said : Option (List ℕ)) → IsReadSettings text (Err stop) → IsErrAnd r (λ e. e ≡ stop)
     → ServesText text turns r held held said said
 text_refused text turns (Ok _) stop held said bad failed = absurd failed
 text_refused text turns (Err e) stop held said bad failed =
     subst (λ s. ServesText text turns (Err s) held held said said) (sym failed)
     (stopped_by text turns stop held said bad)
+
+-- its settings set nothing up
+unset_by : (text : List ℕ) (turns : ℕ) (stop : Stop) (settings : Settings)
+    (held said : Option (List ℕ)) → AreSettingsOf text (Ok settings) → SetsUp settings (Err stop)
+    → ServesText text turns (Err stop) held held said said
+unset_by text turns BadConfiguration settings held said read sets =
+    (bad_text (refused settings read sets), refl, refl)
+unset_by text turns Failed settings held said read sets = unprinted refl refl
+unset_by text turns Usage settings held said read sets = absurd sets
+unset_by text turns (BadScript line) settings held said read sets = absurd sets
+
+pub settings_refused : (text : List ℕ) (turns : ℕ) (r : Result (Unit {0}) Stop) (stop : Stop)
+    (settings : Settings) (held said : Option (List ℕ)) → AreSettingsOf text (Ok settings)
+    → SetsUp settings (Err stop) → IsErrAnd r (λ e. e ≡ stop)
+    → ServesText text turns r held held said said
+settings_refused text turns (Ok _) stop settings held said read sets failed = absurd failed
+settings_refused text turns (Err e) stop settings held said read sets failed =
+    subst (λ s. ServesText text turns (Err s) held held said said) (sym failed)
+    (unset_by text turns stop settings held said read sets)
 
 -- a message of the day is named, and is not read
 unread_by : (text : List ℕ) (turns : ℕ) (stop : Stop) (setup : Setup)
@@ -110,7 +126,7 @@ manner_unread text turns (Err e) stop setup held said is none failed =
 
 -- nobody listens
 pub unopened_by : (setup : Setup) (fault : ListenFault) (said said_after : Option (List ℕ))
-    → IsFaultOf (listening_of setup) fault → SaysFault fault said said_after
+    → IsFaultOf setup.listening fault → SaysFault fault said said_after
     → IsUnopened setup said said_after
 unopened_by setup (Address address error) said said_after (inl at_clients) says = clients_closed
     (subst (λ (a : SocketAddr). SaysClosed a said said_after) at_clients says)
@@ -131,8 +147,8 @@ not_opened text turns (Err e) stop setup held said said_after is none failed =
 -- what it sets up is served
 text_served : (turns : ℕ) (first last : EngineViewOf MioWire Front) (text : List ℕ)
     (setup : Setup) (held after said said_after : Option (List ℕ)) (r : Result (Unit {0}) Stop)
-    → IsTextOf text setup → IsOpened setup first
-    → Serves (λ wire calls. ⊤) turns first last held after said said_after r
+    → (is : IsTextOf text setup) → IsOpened setup first
+    → Serves is.settings setup.listening.client_room turns first last held after said said_after r
     → ServesText text turns r held after said said_after
 text_served turns first last text setup held after said said_after (Ok _) is opened serves =
     record {
@@ -156,13 +172,16 @@ text_served turns first last text setup held after said said_after
 -- the same, where nothing was said before
 pub opened_served : (turns : ℕ) (first last : EngineViewOf MioWire Front) (text : List ℕ)
     (setup : Setup) (held after said between said_after : Option (List ℕ))
-    (r : Result (Unit {0}) Stop) → IsTextOf text setup
+    (r : Result (Unit {0}) Stop) → (is : IsTextOf text setup)
     → IsOpened setup first × (between ≡ said)
-    → Serves (λ wire calls. ⊤) turns first last held after between said_after r
+    → Serves is.settings setup.listening.client_room turns first last held after between
+    said_after r
     → ServesText text turns r held after said said_after
 opened_served turns first last text setup held after said between said_after r is opened serves =
     text_served turns first last text setup held after said said_after r is opened.0
-    (subst (λ s. Serves (λ wire calls. ⊤) turns first last held after s said_after r) opened.1
+    (subst (λ s.
+    Serves is.settings setup.listening.client_room turns first last held after s said_after r)
+    opened.1
     serves)
 
 -- a file is not read
@@ -190,7 +209,7 @@ nobody_listens : (setup : Setup) (held after said said_after : Option (List ℕ)
 nobody_listens setup held after said said_after is (untold same) =
     nothing_done held after said said_after is same
 nobody_listens setup held after said said_after is (clients_closed says) =
-    failed_opening setup.clients is says
+    failed_opening setup.listening.clients is says
 nobody_listens setup held after said said_after is (links_closed address at_links says) =
     failed_opening address is says
 
@@ -216,3 +235,12 @@ file_served text turns (Err BadConfiguration) held after said said_after served 
     (served.1, served.2)
 file_served text turns (Err Usage) held after said said_after served = absurd served
 file_served text turns (Err (BadScript line)) held after said said_after served = absurd served
+
+-- memory runs out before it is opened
+pub text_cut : (text : List ℕ) (turns : ℕ) (r : Result (Unit {0}) Stop)
+    (held said : Option (List ℕ)) → IsErrAnd r (λ e. e ≡ Failed)
+    → ServesText text turns r held held said said
+text_cut text turns (Ok _) held said failed = absurd failed
+text_cut text turns (Err e) held said failed =
+    subst (λ s. ServesText text turns (Err s) held held said said) (sym failed)
+    (unprinted refl refl)

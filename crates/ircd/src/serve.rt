@@ -4,28 +4,36 @@ ghost use Rattle.irc_endings.specs.declared.fault.Stop.TheVariants.{Failed};
 ghost use Rattle.irc_engine.specs.Knowing.{HasNobody};
 ghost use Rattle.irc_engine.specs.EngineView.{engine_view};
 ghost use Rattle.ircd.specs.ClosedDoors.{SaysFault};
-ghost use Rattle.ircd.specs.Loops.Turns.{IsOfFile, IsRun, Opens, TakesTurns};
+ghost use Rattle.ircd.specs.Loops.Turns.{IsOfFile, Opens, TakesTurns};
 ghost use Rattle.ircd.specs.Loops.Manners.{FindsManner, FindsMotd, IsMotdIn, ReadsMotd};
 ghost use Rattle.ircd.specs.Serving.{IsMannerOf, ServesFile, ServesText};
 
 use crate::closed_door::say_closed;
 use crate::front::{Front, front_of};
-use crate::setup::{Setup, read_setup};
+use crate::rereading::{Watch, look};
+use crate::setup::{Setup, set_up, settings_in};
 use irc_door::{Manner, Motd, MotdFault};
 use irc_endings::{Stop, say_ready};
 use irc_engine::Engine;
 use irc_layer::Layer;
-use irc_outbox::Wire;
-use irc_sockets::{Limits, ListenFault, Listening, MioWire};
+use irc_sockets::{ListenFault, MioWire};
+use irc_turns::Lookout;
 use std::alloc::Global;
 use std::fs::{Files, read_to_string};
 use std::io::{ErrorKind, Write};
 use std::net::Net;
 
+/// A configuration, and the name of the file that it is of.
+#[derive(Drop)]
+struct Source<'a> {
+    file: &'a str,
+    text: &'a str,
+}
+
 /// Serves as a file says, for so many turns. Says `ready` as soon as clients and servers can
 /// connect, and the servers that it calls are called, whether they are reached or not. What becomes
 /// of links is said to `errors` behind each turn, and before that an address at which the system
-/// lets nobody listen.
+/// lets nobody listen. Where a file `.reload` stands beside it, it is read again.
 ///
 /// # Errors
 /// - [`Stop::BadConfiguration`] where the file cannot be read, or is no configuration, or names a
@@ -43,7 +51,11 @@ pub fn serve<T: AllocGlobal + Files + Net, O: Write, E: Write>(
         (E.contents errors.old) (E.contents errors.new) }
 {
     let text = read_file(rt, file)?;
-    serve_text(rt, text.as_str(), turns, output, errors)
+    let source = Source {
+        file,
+        text: text.as_str(),
+    };
+    serve_text(rt, &source, turns, output, errors)
 }
 
 /// All that a file holds.
@@ -57,21 +69,29 @@ fn read_file<T: AllocGlobal + Files>(rt: &T, file: &str) -> Result<String, Stop>
     }
 }
 
-/// Serves as a text says.
+/// Serves as a text says, and as the file does that it is of, where this is read again.
 fn serve_text<T: AllocGlobal + Files + Net, O: Write, E: Write>(
     rt: &T,
-    text: &str,
+    source: &Source,
     turns: u64,
     output: &mut O,
     errors: &mut E,
 ) -> Result<(), Stop>
-    ensures { ServesText text.now turns result (O.contents output.old) (O.contents output.new)
-        (E.contents errors.old) (E.contents errors.new) }
+    ensures { ServesText source.now.text.now turns result (O.contents output.old)
+        (O.contents output.new) (E.contents errors.old) (E.contents errors.new) }
 {
-    let setup = read_setup(rt.alloc(), text)?;
+    let settings = settings_in(rt.alloc(), source.text)?;
+    let setup = set_up(rt.alloc(), &settings)?;
+    let watch = Watch::new(
+        rt.alloc(),
+        source.file,
+        settings,
+        setup.listening.client_room,
+    )?;
     let manner = manner_of(rt, &setup)?;
     let mut engine = open(rt, rt.alloc(), setup, manner, errors)?;
-    run_engine(&mut engine, turns, output, errors)
+    say_ready(output)?;
+    take_turns(rt, &watch, &mut engine, turns, errors)
 }
 
 /// How clients are spoken to.
@@ -79,13 +99,13 @@ fn manner_of<T: AllocGlobal + Files>(rt: &T, setup: &Setup) -> Result<Manner, St
     ensures { FindsManner setup.now result }
 {
     Ok(Manner {
-        programs: setup.programs,
-        motd: optional_motd(rt, setup.motd.as_ref(), setup.client_room)?,
+        programs: setup.speech.programs,
+        motd: optional_motd(rt, setup.speech.motd.as_ref(), setup.listening.client_room)?,
     })
 }
 
 /// The message of the day that stands in a file, if one is named.
-fn optional_motd<T: AllocGlobal + Files>(
+pub(crate) fn optional_motd<T: AllocGlobal + Files>(
     rt: &T,
     file: Option<&String>,
     room: usize,
@@ -136,28 +156,22 @@ fn open<T: Net, E: Write>(
     requires manner { IsMannerOf setup manner }
     ensures { Opens setup result (E.contents errors.old) (E.contents errors.new) }
 {
-    let listening = Listening {
-        clients: setup.clients,
-        links: setup.links,
-        client_room: setup.client_room,
-        link_room: setup.link_room,
-        name_within: setup.name_within,
-        register_within: setup.register_within,
-        limits: Limits {
-            connections_per_address: setup.connections_per_address,
-            links_per_address: setup.links_per_address,
-            pace: setup.pace,
-            deny: setup.deny,
-            proxies: setup.proxies,
-        },
-    };
-    let wire = match MioWire::listen(net, alloc, listening, setup.callees, setup.spread) {
+    let listening = setup.listening;
+    let (client_room, link_room) = (listening.client_room, listening.link_room);
+    let calls = setup.calls;
+    let wire = match MioWire::listen(net, alloc, listening, calls.callees, calls.spread) {
         Ok(wire) => wire,
         Err(fault) => return Err(stop_for(fault, errors)),
     };
-    let layer = Layer::new(alloc, setup.server, setup.plain);
-    let front = front_of(alloc, layer, setup.programs, setup.asks, manner);
-    let engine = Engine::new(alloc, front, wire, setup.client_room, setup.link_room)?;
+    let layer = Layer::new(alloc, setup.server, calls.plain);
+    let front = front_of(
+        alloc,
+        layer,
+        setup.speech.programs,
+        setup.speech.asks,
+        manner,
+    );
+    let engine = Engine::new(alloc, front, wire, client_room, link_room)?;
     Ok(engine)
 }
 
@@ -176,32 +190,27 @@ fn stop_for<E: Write>(fault: ListenFault, errors: &mut E) -> Stop
     }
 }
 
-/// Says `ready`, and takes so many turns.
-fn run_engine<W: Wire, O: Write, E: Write>(
-    engine: &mut Engine<W, Front>,
-    turns: u64,
-    output: &mut O,
-    errors: &mut E,
-) -> Result<(), Stop>
-    ensures { IsRun W.is_after turns engine.old engine.new (O.contents output.old)
-        (O.contents output.new)
-        (E.contents errors.old) (E.contents errors.new) result }
-{
-    say_ready(output)?;
-    take_turns(engine, turns, errors)
-}
-
 /// Takes so many turns, up to the first that is not done: it is the last, and the program fails.
-fn take_turns<W: Wire, E: Write>(
-    engine: &mut Engine<W, Front>,
+/// Behind each it looks whether the configuration is to be read again, once a second.
+fn take_turns<T: AllocGlobal + Files, E: Write>(
+    rt: &T,
+    watch: &Watch,
+    engine: &mut Engine<MioWire, Front>,
     turns: u64,
     errors: &mut E,
 ) -> Result<(), Stop>
-    ensures { TakesTurns W.is_after (engine_view engine.old) turns (engine_view engine.new)
+    ensures { TakesTurns watch.now (engine_view engine.old) turns (engine_view engine.new)
         (E.contents errors.old) (E.contents errors.new) result }
 {
-    match engine.run_telling(turns, errors) {
-        Ok(()) => Ok(()),
-        Err(_) => Err(Stop::Failed),
+    let mut lookout = Lookout::new(engine.moment());
+    let mut is_stuck = false;
+    for _turn in 0..turns {
+        if engine.turn_telling(errors).is_err() {
+            return Err(Stop::Failed);
+        }
+        if lookout.is_time(engine.moment()) {
+            look(rt, watch, engine, &mut is_stuck, errors);
+        }
     }
+    Ok(())
 }

@@ -1,14 +1,14 @@
 -- What comes of opening a server, and of turns, one after another.
 use Rattle.std.specs.Prelude.{◌≡◌, ℕ, ◌⊎◌, Option, Result, Ok, Err, List}
-use Rattle.irc_outbox.specs.Calls.{Call}
 use Rattle.irc_sockets.specs.declared.mio_wire.MioWire.{MioWire}
 use Rattle.irc_engine.specs.declared.engine.Engine.{Engine}
 use Rattle.irc_engine.specs.EngineView.{EngineViewOf, engine_view}
 use Rattle.irc_journal.specs.Saying.{AreSomeSaid}
 use Rattle.irc_endings.specs.declared.fault.Stop.{Stop}
 use Rattle.irc_endings.specs.declared.fault.Stop.TheVariants.{BadConfiguration, Failed}
+use Rattle.ircd.specs.declared.rereading.Watch.{Watch}
 use Rattle.ircd.specs.declared.setup.Setup.{Setup}
-use Rattle.ircd.specs.Serving.{Front, IsOpened, IsUnopened, FrontTurns, Serves}
+use Rattle.ircd.specs.Serving.{Front, IsOpened, IsUnopened, FrontTurns}
 
 -- what was set up is open, and nothing was said; or the program failed
 abbrev pub Opens : {g : _} → Setup → Result (Engine MioWire Front g) Stop
@@ -18,22 +18,13 @@ Opens setup (Ok engine) errors errors_after =
 Opens setup (Err stop) errors errors_after = (stop ≡ Failed) × IsUnopened setup errors errors_after
 
 -- all of so many turns were taken, or one was not, and the program failed; what was said is of
--- links
-abbrev pub TakesTurns : {W : Type 0} → (W → List Call → Type 0) → EngineViewOf W Front → ℕ
-    → EngineViewOf W Front → Option (List ℕ) → Option (List ℕ) → Result (Unit {0}) Stop → Type 0
-TakesTurns is_after old turns new errors errors_after (Ok _) =
-    FrontTurns is_after old errors turns new errors_after
-TakesTurns is_after old turns new errors errors_after (Err stop) =
+-- links, and of what was read again
+abbrev pub TakesTurns : Watch → EngineViewOf MioWire Front → ℕ → EngineViewOf MioWire Front
+    → Option (List ℕ) → Option (List ℕ) → Result (Unit {0}) Stop → Type 0
+TakesTurns watch old turns new errors errors_after (Ok _) =
+    FrontTurns watch.settings watch.client_room old errors turns new errors_after
+TakesTurns watch old turns new errors errors_after (Err stop) =
     (stop ≡ Failed) × AreSomeSaid errors errors_after
-
--- how serving by an engine ends, once it is open
-abbrev pub IsRun : {W : Type 0} {g : _} → (W → List Call → Type 0) → ℕ
-    → (old new : Engine W Front g)
-    → (printed printed_after errors errors_after : Option (List ℕ)) → Result (Unit {0}) Stop
-    → Type 0
-IsRun is_after turns old new printed printed_after errors errors_after result =
-    Serves is_after turns (engine_view old)
-    (engine_view new) printed printed_after errors errors_after result
 
 -- why a file is not read
 abbrev pub IsOfFile : Stop → Type 0
