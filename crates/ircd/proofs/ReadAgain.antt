@@ -12,28 +12,27 @@ use Rattle.irc_settings.specs.declared.fixed.FixedKey.{FixedKey}
 use Rattle.irc_settings.specs.declared.settings.Settings.{Settings}
 use Rattle.irc_settings.specs.Fixed.{differs_at, fixed_keys, key_name}
 use Rattle.ircd.specs.declared.rereading.Change.{Change}
-use Rattle.ircd.specs.Loops.Rereading.{IsChangeOf}
+use Rattle.ircd.specs.Loops.Rereading.{AreOfSomeText, IsChangeOf}
 use Rattle.ircd.specs.Serving.{front_server, AreRestartsSaid, Changes, Front, IsRestartSaid}
 use Rattle.ircd.specs.Serving.{Rereads, reread}
 
 -- it is taken, and then said which keys wait
-pub read_anew : (first : Settings) (room : ℕ) (old new : EngineViewOf MioWire Front)
-    (held between after : Option (List ℕ)) (settings : Settings) (change : Change)
-    (keys : List FixedKey) → IsChangeOf room settings change
+pub read_anew : (first now : Settings) (old new : EngineViewOf MioWire Front)
+    (held between after : Option (List ℕ)) (change : Change) (keys : List FixedKey)
+    → AreOfSomeText now → IsChangeOf now first.client_room change
     → IsAltered (λ wire calls. ⊤) front_server (Changes change.limits change.motd) old new
     → IsFrontSaid (rereading_line Taken) held between → keys ≡ fixed_keys
-    → AreRestartsSaid keys first settings between after → Rereads first room old held new after
-read_anew first room old new held between after settings change keys is altered said all restarts =
-    reread is.text is.setup is.is_text_of new between after (record {
+    → AreRestartsSaid keys first now between after → Rereads first old held new after
+read_anew first now old new held between after change keys of is altered said all restarts =
+    reread of.0 is.setup (record { settings = now; read = of.1; is_set_up = is.is_set_up }) new
+    between after (record {
       motd = change.motd;
       has_motd = is.has_motd;
       altered = subst (λ (limits : Limits).
           IsAltered (λ wire calls. ⊤) front_server (Changes limits change.motd) old new)
           is.limits_are altered;
     }) said
-    (subst (λ (now : Settings). AreRestartsSaid fixed_keys first now between after)
-    (sym is.settings_are)
-    (subst (λ (ks : List FixedKey). AreRestartsSaid ks first settings between after) all restarts))
+    (subst (λ (ks : List FixedKey). AreRestartsSaid ks first now between after) all restarts)
 
 -- ---- which keys wait
 

@@ -379,41 +379,26 @@ is_refusal what = true
 
 -- What comes of a look: nothing was asked for; or the file is not read again, nothing has changed,
 -- and it is said why; or it is, and some text sets up what is changed.
-pub data Rereads (first : Settings) (room : ℕ) (old : EngineViewOf MioWire Front)
+pub data Rereads (first : Settings) (old : EngineViewOf MioWire Front)
     (held : Option (List ℕ)) : EngineViewOf MioWire Front → Option (List ℕ) → Type 0 where
-  unasked : Rereads first room old held old held
+  unasked : Rereads first old held old held
   unread : (what : Rereading) (after : Option (List ℕ)) → is_refusal what ≡ true
-      → IsFrontSaid (rereading_line what) held after → Rereads first room old held old after
+      → IsFrontSaid (rereading_line what) held after → Rereads first old held old after
   reread : (text : List ℕ) (setup : Setup) (is : IsTextOf text setup)
       (new : EngineViewOf MioWire Front) (between after : Option (List ℕ))
-      → IsChanged setup room old new → IsFrontSaid (rereading_line Taken) held between
+      → IsChanged setup first.client_room old new
+      → IsFrontSaid (rereading_line Taken) held between
       → AreRestartsSaid fixed_keys first is.settings between after
-      → Rereads first room old held new after
+      → Rereads first old held new after
 
 -- so many turns, with what is said behind each, and a look behind it or none
-pub data FrontTurns (first : Settings) (room : ℕ) (old : EngineViewOf MioWire Front)
+pub data FrontTurns (first : Settings) (old : EngineViewOf MioWire Front)
     (held : Option (List ℕ)) : ℕ → EngineViewOf MioWire Front → Option (List ℕ) → Type 0 where
-  no_turn : FrontTurns first room old held 0 old held
+  no_turn : FrontTurns first old held 0 old held
   one_more : (n : ℕ) (between turned new : EngineViewOf MioWire Front)
-      (said told after : Option (List ℕ)) → FrontTurns first room old held n between said
-      → FrontTurn between said turned told (Ok tt) → Rereads first room turned told new after
-      → FrontTurns first room old held (n + 1) new after
-
--- `ready` was printed, all turns were taken, and behind each what there was to tell was said; else
--- a front of `ready` was printed, the program failed, and what was said is lines of the journal
-abbrev pub Serves : Settings → ℕ → ℕ → EngineViewOf MioWire Front → EngineViewOf MioWire Front
-    → Option (List ℕ) → Option (List ℕ) → Option (List ℕ) → Option (List ℕ) → Result (Unit {0}) Stop
-    → Type 0
-Serves settings room turns old new printed printed_after errors errors_after (Ok _) =
-    Appends printed printed_after ready_text
-    × FrontTurns settings room old errors turns new errors_after
-Serves settings room turns old new printed printed_after errors errors_after (Err Failed) =
-    Wrote printed printed_after ready_text × AreSomeSaid errors errors_after
-Serves settings room turns old new printed printed_after errors errors_after
-    (Err BadConfiguration) = ⊥
-Serves settings room turns old new printed printed_after errors errors_after (Err Usage) = ⊥
-Serves settings room turns old new printed printed_after errors errors_after
-    (Err (BadScript line)) = ⊥
+      (said told after : Option (List ℕ)) → FrontTurns first old held n between said
+      → FrontTurn between said turned told (Ok tt) → Rereads first turned told new after
+      → FrontTurns first old held (n + 1) new after
 
 -- where the program failed: nothing was printed or said; or the text sets up a server, and nothing
 -- was printed, since none is open; or a front of `ready` was, and what was said is of the journal
@@ -438,22 +423,26 @@ pub record IsServed (text : List ℕ) (turns : ℕ)
   pub last : EngineViewOf MioWire Front
   pub is_opened : IsOpened setup first
   pub is_ready : Appends printed printed_after ready_text
-  pub taken :
-      FrontTurns is_text_of.settings setup.listening.client_room first errors turns last
-      errors_after
+  pub taken : FrontTurns is_text_of.settings first errors turns last errors_after
 
--- How serving by a text ends: anything was printed or said only where the text sets up a server; a
--- bad text is refused, and so is one whose message of the day is, and nothing printed or said.
+-- Why a text is not served: it is bad, or its message of the day is, and nothing was printed or
+-- said; or the program failed, and anything was printed or said only where it sets up a server.
+abbrev pub IsNotServed : List ℕ → Stop
+    → (printed printed_after errors errors_after : Option (List ℕ)) → Type 0
+IsNotServed text BadConfiguration printed printed_after errors errors_after =
+    IsUnserved text × (printed_after ≡ printed) × (errors_after ≡ errors)
+IsNotServed text Failed printed printed_after errors errors_after =
+    IsCutShort text printed printed_after errors errors_after
+IsNotServed text Usage printed printed_after errors errors_after = ⊥
+IsNotServed text (BadScript line) printed printed_after errors errors_after = ⊥
+
+-- how serving by a text ends
 abbrev pub ServesText : List ℕ → ℕ → Result (Unit {0}) Stop
     → (printed printed_after errors errors_after : Option (List ℕ)) → Type 0
 ServesText text turns (Ok _) printed printed_after errors errors_after =
     IsServed text turns printed printed_after errors errors_after
-ServesText text turns (Err BadConfiguration) printed printed_after errors errors_after =
-    IsUnserved text × (printed_after ≡ printed) × (errors_after ≡ errors)
-ServesText text turns (Err Failed) printed printed_after errors errors_after =
-    IsCutShort text printed printed_after errors errors_after
-ServesText text turns (Err Usage) printed printed_after errors errors_after = ⊥
-ServesText text turns (Err (BadScript line)) printed printed_after errors errors_after = ⊥
+ServesText text turns (Err stop) printed printed_after errors errors_after =
+    IsNotServed text stop printed printed_after errors errors_after
 
 -- the same of any text: a front of `ready` was printed, and what was said is of the journal; or
 -- nothing was, and what was said is of an address

@@ -6,12 +6,17 @@ ghost use Rattle.ircd.specs.Serving.{front_server, negotiations_of, IsFrontOf};
 
 use irc_door::{Door, Manner, Programs};
 use irc_doorman::{Asks, Doorman};
+use irc_engine::Engine;
 use irc_hold::{Hold, Negotiations};
 use irc_layer::Layer;
+use irc_sockets::MioWire;
 use std::alloc::Global;
 
 /// What serves.
 pub(crate) type Front = Door<Doorman<Hold<Layer>>>;
+
+/// What serves, over sockets.
+pub(crate) type Served = Engine<MioWire, Front>;
 
 /// What stands in front of a layer whose server nobody is connected to.
 pub(crate) fn front_of(

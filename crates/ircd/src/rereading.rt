@@ -5,17 +5,18 @@ ghost use Rattle.irc_engine.specs.EngineView.{engine_view};
 ghost use Rattle.irc_settings.specs.Fixed.{differs_at, key_name};
 ghost use Rattle.ircd.specs.Serving.{is_refusal, motd_file, AreRestartsSaid, Changes, HasMotd};
 ghost use Rattle.ircd.specs.Serving.{IsRestartSaid, IsSetUp, Rereads};
-ghost use Rattle.ircd.specs.Loops.Rereading.{IsChangeOf, IsWatchOf};
+ghost use Rattle.ircd.specs.Loops.Rereading.{AreOfSomeText, IsChangeOf};
 
-use crate::front::Front;
+use crate::front::{Front, Served};
 use crate::serve::optional_motd;
 use crate::setup::{Setup, set_up, settings_in};
 use irc_door::Motd;
 use irc_endings::Stop;
-use irc_engine::{Alteration, Engine};
+use irc_engine::Alteration;
 use irc_journal::{Rereading, say_rereading, say_restart};
 use irc_settings::{FixedKey, Settings, fixed_keys};
 use irc_sockets::{Limits, MioWire};
+use irc_turns::Lookout;
 use std::alloc::{AllocError, Global};
 use std::fs::{Files, exists, read_to_string, remove_file};
 use std::io::{ErrorKind, Write};
@@ -30,9 +31,15 @@ pub(crate) struct Watch<'a> {
     /// The name of what asks.
     request: String,
     /// What the server was started with.
-    settings: Settings,
-    /// How many bytes may wait for a client.
-    client_room: usize,
+    pub settings: &'a Settings,
+}
+
+/// When the next look comes, and what the last one found.
+#[derive(Drop)]
+pub(crate) struct Looks {
+    next: Lookout,
+    /// Whether what asks could not be taken away.
+    is_stuck: bool,
 }
 
 /// What changes while the server runs.
@@ -40,13 +47,6 @@ pub(crate) struct Watch<'a> {
 struct Change {
     limits: Limits,
     motd: Option<Motd>,
-}
-
-/// What was read again: what it says, and what of that changes.
-#[derive(Drop)]
-struct Reread {
-    settings: Settings,
-    change: Change,
 }
 
 impl Alteration<MioWire, Front> for Change {
@@ -60,17 +60,12 @@ impl Alteration<MioWire, Front> for Change {
 }
 
 impl<'a> Watch<'a> {
-    /// That of a file of which the server was started with these settings.
+    /// That of a file, of which the server is started with these settings.
     ///
     /// # Errors
     /// Where memory runs out.
-    pub fn new(
-        alloc: Global,
-        file: &'a str,
-        settings: Settings,
-        client_room: usize,
-    ) -> Result<Self, AllocError>
-        ensures { IfOk result (IsWatchOf settings client_room) }
+    pub fn new(alloc: Global, file: &'a str, settings: &'a Settings) -> Result<Self, AllocError>
+        ensures { IfOk result (λ watch. watch.settings.now ≡ settings.now) }
     {
         let mut request = String::from_str(alloc, file)?;
         request.push_str(".reload")?;
@@ -78,22 +73,47 @@ impl<'a> Watch<'a> {
             file,
             request,
             settings,
-            client_room,
         })
+    }
+}
+
+impl Looks {
+    /// None was yet, and this says when the next one comes.
+    pub fn new(next: Lookout) -> Self {
+        Looks {
+            next,
+            is_stuck: false,
+        }
+    }
+}
+
+/// Looks, once a second, whether the configuration is to be read again, and reads it then.
+pub(crate) fn look_in_time<T: AllocGlobal + Files, E: Write>(
+    rt: &T,
+    watch: &Watch,
+    engine: &mut Served,
+    looks: &mut Looks,
+    errors: &mut E,
+)
+    ensures { Rereads watch.now.settings.now (engine_view engine.old) (E.contents errors.old)
+        (engine_view engine.new) (E.contents errors.new) }
+{
+    if looks.next.is_time(engine.moment()) {
+        look(rt, watch, engine, &mut looks.is_stuck, errors);
     }
 }
 
 /// Looks whether the configuration is to be read again, and reads it then. Where what asks for it
 /// cannot be taken away, that is said once.
-pub(crate) fn look<T: AllocGlobal + Files, E: Write>(
+fn look<T: AllocGlobal + Files, E: Write>(
     rt: &T,
     watch: &Watch,
-    engine: &mut Engine<MioWire, Front>,
+    engine: &mut Served,
     is_stuck: &mut bool,
     errors: &mut E,
 )
-    ensures { Rereads watch.now.settings watch.now.client_room (engine_view engine.old)
-        (E.contents errors.old) (engine_view engine.new) (E.contents errors.new) }
+    ensures { Rereads watch.now.settings.now (engine_view engine.old) (E.contents errors.old)
+        (engine_view engine.new) (E.contents errors.new) }
 {
     if !exists(rt, watch.request.as_str()).unwrap_or(false) {
         *is_stuck = false;
@@ -111,37 +131,64 @@ pub(crate) fn look<T: AllocGlobal + Files, E: Write>(
 fn read_again<T: AllocGlobal + Files, E: Write>(
     rt: &T,
     watch: &Watch,
-    engine: &mut Engine<MioWire, Front>,
+    engine: &mut Served,
     errors: &mut E,
 )
-    ensures { Rereads watch.now.settings watch.now.client_room (engine_view engine.old)
+    ensures { Rereads watch.now.settings.now (engine_view engine.old) (E.contents errors.old)
+        (engine_view engine.new) (E.contents errors.new) }
+{
+    match settings_now(rt, watch) {
+        Ok(settings) => change_to(rt, watch.settings, &settings, engine, errors),
+        Err(why) => say_rereading(why, errors),
+    }
+}
+
+/// What the configuration says now.
+fn settings_now<T: AllocGlobal + Files>(rt: &T, watch: &Watch) -> Result<Settings, Rereading>
+    ensures read { IfOk result AreOfSomeText }
+    ensures refused { IfErr result (λ why. is_refusal why ≡ true) }
+{
+    let text = text_of(rt, watch)?;
+    settings_of(rt.alloc(), text.as_str())
+}
+
+/// Does what these settings change of a server that was started with the first; or says why nothing
+/// changes.
+fn change_to<T: AllocGlobal + Files, E: Write>(
+    rt: &T,
+    first: &Settings,
+    now: &Settings,
+    engine: &mut Served,
+    errors: &mut E,
+)
+    ensures { AreOfSomeText now.now → Rereads first.now (engine_view engine.old)
         (E.contents errors.old) (engine_view engine.new) (E.contents errors.new) }
 {
-    match change_in(rt, watch) {
-        Ok(reread) => {
-            engine.alter(reread.change);
+    match change_of(rt, now, first.client_room) {
+        Ok(change) => {
+            engine.alter(change);
             say_rereading(Rereading::Taken, errors);
-            say_restarts(fixed_keys(), &watch.settings, &reread.settings, errors);
+            say_restarts(fixed_keys(), first, now, errors);
         }
         Err(why) => say_rereading(why, errors),
     }
 }
 
-/// What the configuration says now, and what of it changes.
-fn change_in<T: AllocGlobal + Files>(rt: &T, watch: &Watch) -> Result<Reread, Rereading>
-    ensures read { IfOk result
-        (λ reread. IsChangeOf watch.now.client_room reread.settings reread.change) }
+/// What settings change; an outbox of so many bytes has to have room for the message of the day.
+fn change_of<T: AllocGlobal + Files>(
+    rt: &T,
+    settings: &Settings,
+    room: usize,
+) -> Result<Change, Rereading>
+    ensures read { IfOk result (IsChangeOf settings.now room) }
     ensures refused { IfErr result (λ why. is_refusal why ≡ true) }
 {
-    let text = text_of(rt, watch)?;
-    let settings = settings_of(rt.alloc(), text.as_str())?;
-    let setup = setup_of(rt.alloc(), &settings)?;
-    let motd = motd_of(rt, &setup, watch.client_room)?;
-    let change = Change {
+    let setup = setup_of(rt.alloc(), settings)?;
+    let motd = motd_of(rt, &setup, room)?;
+    Ok(Change {
         limits: setup.listening.limits,
         motd,
-    };
-    Ok(Reread { settings, change })
+    })
 }
 
 /// All that the file holds.

@@ -4,18 +4,20 @@ ghost use Rattle.irc_endings.specs.declared.fault.Stop.TheVariants.{Failed};
 ghost use Rattle.irc_engine.specs.Knowing.{HasNobody};
 ghost use Rattle.irc_engine.specs.EngineView.{engine_view};
 ghost use Rattle.ircd.specs.ClosedDoors.{SaysFault};
-ghost use Rattle.ircd.specs.Loops.Turns.{IsOfFile, Opens, TakesTurns};
+ghost use Rattle.ircd.specs.Loops.Turns.{Begins, IsOfFile, Opens, OpensBy, ServesSettings};
+ghost use Rattle.ircd.specs.Loops.Turns.{TakesTurn, TakesTurns};
 ghost use Rattle.ircd.specs.Loops.Manners.{FindsManner, FindsMotd, IsMotdIn, ReadsMotd};
 ghost use Rattle.ircd.specs.Serving.{IsMannerOf, ServesFile, ServesText};
 
 use crate::closed_door::say_closed;
-use crate::front::{Front, front_of};
-use crate::rereading::{Watch, look};
+use crate::front::{Served, front_of};
+use crate::rereading::{Looks, Watch, look_in_time};
 use crate::setup::{Setup, set_up, settings_in};
 use irc_door::{Manner, Motd, MotdFault};
 use irc_endings::{Stop, say_ready};
 use irc_engine::Engine;
 use irc_layer::Layer;
+use irc_settings::Settings;
 use irc_sockets::{ListenFault, MioWire};
 use irc_turns::Lookout;
 use std::alloc::Global;
@@ -81,17 +83,51 @@ fn serve_text<T: AllocGlobal + Files + Net, O: Write, E: Write>(
         (O.contents output.new) (E.contents errors.old) (E.contents errors.new) }
 {
     let settings = settings_in(rt.alloc(), source.text)?;
-    let setup = set_up(rt.alloc(), &settings)?;
-    let watch = Watch::new(
-        rt.alloc(),
-        source.file,
-        settings,
-        setup.listening.client_room,
-    )?;
-    let manner = manner_of(rt, &setup)?;
-    let mut engine = open(rt, rt.alloc(), setup, manner, errors)?;
+    let watch = Watch::new(rt.alloc(), source.file, &settings)?;
+    serve_watched(rt, &watch, turns, output, errors)
+}
+
+/// Serves as the settings say that are watched.
+fn serve_watched<T: AllocGlobal + Files + Net, O: Write, E: Write>(
+    rt: &T,
+    watch: &Watch,
+    turns: u64,
+    output: &mut O,
+    errors: &mut E,
+) -> Result<(), Stop>
+    ensures { ServesSettings watch.now.settings.now turns result (O.contents output.old)
+        (O.contents output.new) (E.contents errors.old) (E.contents errors.new) }
+{
+    let mut engine = begin(rt, watch.settings, output, errors)?;
+    take_turns(rt, watch, &mut engine, turns, errors)
+}
+
+/// An engine that listens, and has called whom it is to call; `ready` is said.
+fn begin<T: AllocGlobal + Files + Net, O: Write, E: Write>(
+    rt: &T,
+    settings: &Settings,
+    output: &mut O,
+    errors: &mut E,
+) -> Result<Served, Stop>
+    ensures { Begins settings.now result (O.contents output.old) (O.contents output.new)
+        (E.contents errors.old) (E.contents errors.new) }
+{
+    let engine = open_by(rt, settings, errors)?;
     say_ready(output)?;
-    take_turns(rt, &watch, &mut engine, turns, errors)
+    Ok(engine)
+}
+
+/// An engine that listens, as settings say.
+fn open_by<T: AllocGlobal + Files + Net, E: Write>(
+    rt: &T,
+    settings: &Settings,
+    errors: &mut E,
+) -> Result<Served, Stop>
+    ensures { OpensBy settings.now result (E.contents errors.old) (E.contents errors.new) }
+{
+    let setup = set_up(rt.alloc(), settings)?;
+    let manner = manner_of(rt, &setup)?;
+    open(rt, rt.alloc(), setup, manner, errors)
 }
 
 /// How clients are spoken to.
@@ -151,7 +187,7 @@ fn open<T: Net, E: Write>(
     setup: Setup,
     manner: Manner,
     errors: &mut E,
-) -> Result<Engine<MioWire, Front>, Stop>
+) -> Result<Served, Stop>
     requires nobody { HasNobody setup.server }
     requires manner { IsMannerOf setup manner }
     ensures { Opens setup result (E.contents errors.old) (E.contents errors.new) }
@@ -191,26 +227,39 @@ fn stop_for<E: Write>(fault: ListenFault, errors: &mut E) -> Stop
 }
 
 /// Takes so many turns, up to the first that is not done: it is the last, and the program fails.
-/// Behind each it looks whether the configuration is to be read again, once a second.
 fn take_turns<T: AllocGlobal + Files, E: Write>(
     rt: &T,
     watch: &Watch,
-    engine: &mut Engine<MioWire, Front>,
+    engine: &mut Served,
     turns: u64,
     errors: &mut E,
 ) -> Result<(), Stop>
-    ensures { TakesTurns watch.now (engine_view engine.old) turns (engine_view engine.new)
-        (E.contents errors.old) (E.contents errors.new) result }
+    ensures { TakesTurns watch.now.settings.now (engine_view engine.old) turns
+        (engine_view engine.new) (E.contents errors.old) (E.contents errors.new) result }
 {
-    let mut lookout = Lookout::new(engine.moment());
-    let mut is_stuck = false;
+    let mut looks = Looks::new(Lookout::new(engine.moment()));
     for _turn in 0..turns {
-        if engine.turn_telling(errors).is_err() {
-            return Err(Stop::Failed);
-        }
-        if lookout.is_time(engine.moment()) {
-            look(rt, watch, engine, &mut is_stuck, errors);
-        }
+        take_turn(rt, watch, engine, &mut looks, errors)?;
     }
     Ok(())
+}
+
+/// Takes a turn. Behind it, it looks once a second whether the configuration is to be read again.
+fn take_turn<T: AllocGlobal + Files, E: Write>(
+    rt: &T,
+    watch: &Watch,
+    engine: &mut Served,
+    looks: &mut Looks,
+    errors: &mut E,
+) -> Result<(), Stop>
+    ensures { TakesTurn watch.now.settings.now (engine_view engine.old) (engine_view engine.new)
+        (E.contents errors.old) (E.contents errors.new) result }
+{
+    match engine.turn_telling(errors) {
+        Ok(()) => {
+            look_in_time(rt, watch, engine, looks, errors);
+            Ok(())
+        }
+        Err(_) => Err(Stop::Failed),
+    }
 }

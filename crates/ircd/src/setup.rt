@@ -81,15 +81,15 @@ pub fn set_up(alloc: Global, settings: &Settings) -> Result<Setup, Stop>
     ensures { SetsUp settings.now result }
 {
     Ok(Setup {
-        calls: calls(alloc, settings)?,
-        listening: listening(alloc, settings)?,
-        server: server(alloc, settings)?,
-        speech: speech(alloc, settings)?,
+        calls: calls_of(alloc, settings)?,
+        listening: listening_of(alloc, settings)?,
+        server: server_of(alloc, settings)?,
+        speech: speech_of(alloc, settings)?,
     })
 }
 
 /// The server, which nobody is connected to.
-fn server(alloc: Global, settings: &Settings) -> Result<Server, Stop>
+fn server_of(alloc: Global, settings: &Settings) -> Result<Server, Stop>
     ensures { SetsUpPart (IsServerOf settings.now) settings.now result }
 {
     let server = Server::new(alloc, config(alloc, settings)?)?;
@@ -97,7 +97,7 @@ fn server(alloc: Global, settings: &Settings) -> Result<Server, Stop>
 }
 
 /// Where it listens, and how many it takes there.
-fn listening(alloc: Global, settings: &Settings) -> Result<Listening, Stop>
+fn listening_of(alloc: Global, settings: &Settings) -> Result<Listening, Stop>
     ensures { SetsUpPart (IsListeningOf settings.now) settings.now result }
 {
     Ok(Listening {
@@ -107,12 +107,12 @@ fn listening(alloc: Global, settings: &Settings) -> Result<Listening, Stop>
         link_room: settings.link_room,
         name_within: settings.name_within,
         register_within: settings.register_within,
-        limits: limits(alloc, settings)?,
+        limits: limits_of(alloc, settings)?,
     })
 }
 
 /// Who comes in, and how much of each is taken.
-fn limits(alloc: Global, settings: &Settings) -> Result<Limits, Stop>
+fn limits_of(alloc: Global, settings: &Settings) -> Result<Limits, Stop>
     ensures { SetsUpPart (AreLimitsOf settings.now) settings.now result }
 {
     Ok(Limits {
@@ -125,7 +125,7 @@ fn limits(alloc: Global, settings: &Settings) -> Result<Limits, Stop>
 }
 
 /// Whom it calls.
-fn calls(alloc: Global, settings: &Settings) -> Result<Calls, Stop>
+fn calls_of(alloc: Global, settings: &Settings) -> Result<Calls, Stop>
     ensures { SetsUpPart (AreCallsOf settings.now) settings.now result }
 {
     Ok(Calls {
@@ -136,7 +136,7 @@ fn calls(alloc: Global, settings: &Settings) -> Result<Calls, Stop>
 }
 
 /// How clients are spoken to.
-fn speech(alloc: Global, settings: &Settings) -> Result<Speech, Stop>
+fn speech_of(alloc: Global, settings: &Settings) -> Result<Speech, Stop>
     ensures { SetsUpPart (IsSpeechOf settings.now) settings.now result }
 {
     Ok(Speech {

@@ -1,14 +1,8 @@
-use Rattle.irc_engine.specs.EngineView.{engine_view}
 use Rattle.ircd.specs.Serving.{unread}
-use Rattle.ircd.proofs.ReadAgain.{read_anew}
 use Rattle.ircd.proofs.rereading.read_again.Goals as goal
 
 pub returns-in-Ok : goal.returns-in-Ok
-returns-in-Ok g c =
-    read_anew c.args.watch.now.settings c.args.watch.now.client_room
-    (engine_view c.args.engine.now) (engine_view c.alter.new.self) _ _ _ _ _ _
-    c.in-Ok.ensures.read c.alter.ensures c.say_rereading.ensures c.fixed_keys.ensures
-    c.say_restarts.ensures
+returns-in-Ok g c = c.change_to.ensures c.in-Ok.ensures.read
 
 pub returns-in-Err : goal.returns-in-Err
-returns-in-Err g c = unread c.in-Err.why _ c.in-Err.ensures.refused c.say_rereading-in-Err.ensures
+returns-in-Err g c = unread c.in-Err.why _ c.in-Err.ensures.refused c.say_rereading.ensures

@@ -2,37 +2,37 @@ use Rattle.ircd.specs.Serving.{IsSetUp}
 use Rattle.ircd.proofs.SettingUp.{unset_part}
 use Rattle.ircd.proofs.setup.set_up.Goals as goal
 
-pub returns-in_err-calls : goal.returns-in_err-calls
-returns-in_err-calls c =
+pub returns-in_err-calls_of : goal.returns-in_err-calls_of
+returns-in_err-calls_of c =
     unset_part (IsSetUp c.args.settings.now) c.args.settings.now c.from_residual.result
-    c.in_err-calls.field-0.0 c.in_err-calls.ensures
+    c.in_err-calls_of.field-0.0 c.in_err-calls_of.ensures
     c.from_residual.ensures.1
 
-pub returns-in_err-listening : goal.returns-in_err-listening
-returns-in_err-listening c =
+pub returns-in_err-listening_of : goal.returns-in_err-listening_of
+returns-in_err-listening_of c =
     unset_part
-    (IsSetUp c.args.settings.now) c.args.settings.now c.from_residual-in_err-listening.result
-    c.in_err-listening.field-0.0 c.in_err-listening.ensures
-    c.from_residual-in_err-listening.ensures.1
+    (IsSetUp c.args.settings.now) c.args.settings.now c.from_residual-in_err-listening_of.result
+    c.in_err-listening_of.field-0.0 c.in_err-listening_of.ensures
+    c.from_residual-in_err-listening_of.ensures.1
 
-pub returns-in_err-server : goal.returns-in_err-server
-returns-in_err-server c =
+pub returns-in_err-server_of : goal.returns-in_err-server_of
+returns-in_err-server_of c =
     unset_part
-    (IsSetUp c.args.settings.now) c.args.settings.now c.from_residual-in_err-server.result
-    c.in_err-server.field-0.0 c.in_err-server.ensures
-    c.from_residual-in_err-server.ensures.1
+    (IsSetUp c.args.settings.now) c.args.settings.now c.from_residual-in_err-server_of.result
+    c.in_err-server_of.field-0.0 c.in_err-server_of.ensures
+    c.from_residual-in_err-server_of.ensures.1
 
-pub returns-in_err-speech : goal.returns-in_err-speech
-returns-in_err-speech c =
+pub returns-in_err-speech_of : goal.returns-in_err-speech_of
+returns-in_err-speech_of c =
     unset_part
-    (IsSetUp c.args.settings.now) c.args.settings.now c.from_residual-in_err-speech.result
-    c.in_err-speech.field-0.0 c.in_err-speech.ensures
-    c.from_residual-in_err-speech.ensures.1
+    (IsSetUp c.args.settings.now) c.args.settings.now c.from_residual-in_err-speech_of.result
+    c.in_err-speech_of.field-0.0 c.in_err-speech_of.ensures
+    c.from_residual-in_err-speech_of.ensures.1
 
 pub returns : goal.returns
 returns c = record {
-  server = c.in_ok-server.ensures;
-  listening = c.in_ok-listening.ensures;
-  calls = c.in_ok-calls.ensures;
-  speech = c.in_ok-speech.ensures;
+  server = c.in_ok-server_of.ensures;
+  listening = c.in_ok-listening_of.ensures;
+  calls = c.in_ok-calls_of.ensures;
+  speech = c.in_ok-speech_of.ensures;
 }

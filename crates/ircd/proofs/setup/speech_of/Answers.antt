@@ -2,7 +2,7 @@ use Rattle.std.proofs.Common.{◌∙◌}
 use Rattle.irc_endings.specs.declared.fault.Stop.TheVariants.{Failed}
 use Rattle.ircd.specs.Serving.{IsSpeechOf}
 use Rattle.ircd.proofs.SettingUp.{asks_refused, lent_is, unset_part}
-use Rattle.ircd.proofs.setup.speech.Goals as goal
+use Rattle.ircd.proofs.setup.speech_of.Goals as goal
 
 pub returns-in_err-optional_text : goal.returns-in_err-optional_text
 returns-in_err-optional_text c =

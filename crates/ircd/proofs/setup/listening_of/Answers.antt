@@ -3,7 +3,7 @@ use Rattle.std.specs.Net.Grammar.{IsSocketText}
 use Rattle.ircd.specs.Serving.{IsListeningOf}
 use Rattle.ircd.specs.Loops.SettingUp.{FindsAddress}
 use Rattle.ircd.proofs.SettingUp.{found_in, links_refused, listen_refused, unset_part}
-use Rattle.ircd.proofs.setup.listening.Goals as goal
+use Rattle.ircd.proofs.setup.listening_of.Goals as goal
 
 pub returns-in_err-address : goal.returns-in_err-address
 returns-in_err-address c =
@@ -25,12 +25,12 @@ returns-in_err-optional_address c =
     c.as_ref.ensures.value c.in_err-optional_address.ensures))
     c.from_residual-in_err-optional_address.ensures.1
 
-pub returns-in_err-limits : goal.returns-in_err-limits
-returns-in_err-limits c =
+pub returns-in_err-limits_of : goal.returns-in_err-limits_of
+returns-in_err-limits_of c =
     unset_part
-    (IsListeningOf c.args.settings.now) c.args.settings.now c.from_residual-in_err-limits.result
-    c.in_err-limits.field-0.0 c.in_err-limits.ensures
-    c.from_residual-in_err-limits.ensures.1
+    (IsListeningOf c.args.settings.now) c.args.settings.now c.from_residual-in_err-limits_of.result
+    c.in_err-limits_of.field-0.0 c.in_err-limits_of.ensures
+    c.from_residual-in_err-limits_of.ensures.1
 
 pub returns : goal.returns
 returns c = record {
@@ -43,5 +43,5 @@ returns c = record {
   link_room = refl;
   name_within = refl;
   register_within = refl;
-  limits = c.in_ok-limits.ensures;
+  limits = c.in_ok-limits_of.ensures;
 }

@@ -3,7 +3,7 @@ use Rattle.irc_entrance.specs.Ranges.{AreRanges}
 use Rattle.ircd.specs.Serving.{AreLimitsOf}
 use Rattle.ircd.specs.Loops.SettingUp.{FindsRanges}
 use Rattle.ircd.proofs.SettingUp.{deny_refused, proxies_refused, unset_part}
-use Rattle.ircd.proofs.setup.limits.Goals as goal
+use Rattle.ircd.proofs.setup.limits_of.Goals as goal
 
 pub returns-in_err-ranges : goal.returns-in_err-ranges
 returns-in_err-ranges c =

@@ -2,7 +2,7 @@ use Rattle.irc_endings.specs.Statuses.{stop_of_config}
 use Rattle.irc_endings.specs.declared.fault.Stop.TheVariants.{Failed}
 use Rattle.ircd.specs.Serving.{IsServerOf}
 use Rattle.ircd.proofs.SettingUp.{server_refused, unset_part}
-use Rattle.ircd.proofs.setup.server.Goals as goal
+use Rattle.ircd.proofs.setup.server_of.Goals as goal
 
 pub returns-in_err-config : goal.returns-in_err-config
 returns-in_err-config c =

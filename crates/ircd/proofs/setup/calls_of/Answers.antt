@@ -3,7 +3,7 @@ use Rattle.irc_endings.specs.declared.fault.Stop.TheVariants.{Failed}
 use Rattle.ircd.specs.Serving.{plain_names, AreCalled, AreCallsOf}
 use Rattle.ircd.specs.Loops.SettingUp.{FindsCallees}
 use Rattle.ircd.proofs.SettingUp.{calls_refused, unset_part}
-use Rattle.ircd.proofs.setup.calls.Goals as goal
+use Rattle.ircd.proofs.setup.calls_of.Goals as goal
 
 pub returns-in_err-callees : goal.returns-in_err-callees
 returns-in_err-callees c =
