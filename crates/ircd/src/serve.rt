@@ -200,13 +200,7 @@ fn open<T: Net, E: Write>(
         Err(fault) => return Err(stop_for(fault, errors)),
     };
     let layer = Layer::new(alloc, setup.server, calls.plain);
-    let front = front_of(
-        alloc,
-        layer,
-        setup.speech.programs,
-        setup.speech.asks,
-        manner,
-    );
+    let front = front_of(alloc, layer, setup.speech, manner);
     let engine = Engine::new(alloc, front, wire, client_room, link_room)?;
     Ok(engine)
 }

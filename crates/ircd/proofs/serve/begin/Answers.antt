@@ -11,7 +11,7 @@ pub returns-in_err-say_ready : goal.returns-in_err-say_ready
 returns-in_err-say_ready g c =
     let opened = c.in_ok-engine.ensures in
     unbegun c.args.settings.now c.from_residual-in_err-say_ready.result Failed _ _ _ _
-    (ready_cut c.args.settings.now (engine_view c.in_ok-engine.field-0) _ _ _ _ opened.0 opened.1
+    (ready_cut c.args.settings.now (engine_view c.in_ok-engine.engine) _ _ _ _ opened.0 opened.1
     c.in_err-say_ready.ensures.front) c.from_residual-in_err-say_ready.ensures.1
 
 pub returns : goal.returns

@@ -17,10 +17,10 @@ pub returns-in_err-manner : goal.returns-in_err-manner
 returns-in_err-manner g c =
     unopened_for c.args.settings.now c.from_residual-in_err-manner.result
     c.in_err-manner.field-0.0 _ _
-    (λ held. manner_unread c.args.settings.now c.in_ok-setup.field-0 c.in_err-manner.field-0.0
+    (λ held. manner_unread c.args.settings.now c.in_ok-setup.setup c.in_err-manner.field-0.0
     held _ c.in_ok-setup.ensures c.in_err-manner.ensures)
     c.from_residual-in_err-manner.ensures.1
 
 pub returns : goal.returns
-returns g c = opened_by c.args.settings.now c.in_ok-setup.field-0 c.open.result _ _
+returns g c = opened_by c.args.settings.now c.in_ok-setup.setup c.open.result _ _
     c.in_ok-setup.ensures c.open.ensures

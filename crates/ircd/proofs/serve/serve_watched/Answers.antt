@@ -10,5 +10,5 @@ returns-in_err-engine g c = λ text read. unserved text c.args.turns c.from_resi
 pub returns : goal.returns
 returns g c =
     let began = c.in_ok-engine.ensures in
-    turns_served c.args.watch.now.settings.now c.args.turns (engine_view c.in_ok-engine.field-0) _
+    turns_served c.args.watch.now.settings.now c.args.turns (engine_view c.in_ok-engine.engine) _
     _ _ _ _ _ c.take_turns.result began.0 began.1 began.2 began.3 c.take_turns.ensures
