@@ -52,7 +52,7 @@ Architecture: amd64
 Maintainer: whoever packed this <root@localhost>
 Depends: libc6 (>= 2.34)
 Recommends: python3 (>= 3.11)
-Suggests: systemd (>= 251)
+Suggests: systemd (>= 247)
 Section: net
 Priority: optional
 Description: IRC servers, alone or linked into a tree

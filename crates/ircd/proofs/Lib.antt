@@ -2,3 +2,5 @@ mod ClosedLines
 mod MotdFound
 mod SettingUp
 mod Ready
+mod ReadAgain
+mod TurnsTaken

@@ -26,18 +26,18 @@ motd_unread room (Ok _) stop of failed = absurd failed
 motd_unread room (Err e) stop of failed = subst IsOfFile (sym failed) of
 
 -- how clients are spoken to is not found, since the message is not
-found_by : (setup : Setup) (stop : Stop) → FindsMotd (motd_file setup) setup.client_room (Err stop)
-    → FindsManner setup (Err stop)
+found_by : (setup : Setup) (stop : Stop) → FindsMotd (motd_file setup) setup.listening.client_room
+    (Err stop) → FindsManner setup (Err stop)
 found_by setup BadConfiguration none = none
 found_by setup Failed none = tt
 found_by setup Usage none = absurd none
 found_by setup (BadScript line) none = absurd none
 
 pub manner_unfound : (setup : Setup) (file : Option (List ℕ)) (r : Result Manner Stop)
-    (stop : Stop) → file ≡ motd_file setup → FindsMotd file setup.client_room (Err stop)
+    (stop : Stop) → file ≡ motd_file setup → FindsMotd file setup.listening.client_room (Err stop)
     → IsErrAnd r (λ e. e ≡ stop) → FindsManner setup r
 manner_unfound setup file (Ok _) stop is none failed = absurd failed
 manner_unfound setup file (Err e) stop is none failed =
     subst (λ s. FindsManner setup (Err s)) (sym failed)
     (found_by setup stop
-    (subst (λ f. FindsMotd f setup.client_room (Err stop)) is none))
+    (subst (λ f. FindsMotd f setup.listening.client_room (Err stop)) is none))

@@ -1,29 +1,27 @@
 -- How serving ends: before `ready` is printed, while it is, or behind it.
 use Rattle.std.proofs.Common.{◌≡◌, ◌∙◌, ℕ, Option, Result, Ok, Err, IsErrAnd, List, [], inl, inr}
 use Rattle.std.proofs.Common.{refl, sym, subst}
-use Rattle.std.specs.Prelude.{⊤}
 use Rattle.std.specs.Io.KnownBytes.{Appends}
-use Rattle.irc_outbox.specs.Calls.{Call}
 use Rattle.irc_sockets.specs.declared.mio_wire.MioWire.{MioWire}
-use Rattle.irc_engine.specs.declared.engine.EngineFault.{EngineFault}
+use Rattle.irc_engine.specs.declared.engine.Engine.{Engine}
 use Rattle.irc_engine.specs.EngineView.{EngineViewOf}
-use Rattle.irc_engine.specs.Telling.{RunsTellingBy}
-use Rattle.irc_engine.specs.Laws.Tellings.{runs_tell_some}
 use Rattle.irc_journal.specs.Saying.{AreSomeSaid}
 use Rattle.irc_endings.specs.declared.fault.Stop.{Stop}
 use Rattle.irc_endings.specs.declared.fault.Stop.TheVariants.{Usage, BadScript, BadConfiguration}
 use Rattle.irc_endings.specs.declared.fault.Stop.TheVariants.{Failed}
+use Rattle.irc_settings.specs.declared.settings.Settings.{Settings}
 use Rattle.ircd.specs.declared.setup.Setup.{Setup}
 use Rattle.ircd.specs.Loops.Manners.{FindsManner}
-use Rattle.ircd.specs.Loops.Turns.{IsOfFile, TakesTurns}
+use Rattle.ircd.specs.Loops.Turns.{AreNotServed, Begins, IsOfFile, IsOpenedBy, Opens, OpensBy}
+use Rattle.ircd.specs.Loops.Turns.{ServesSettings, TakesTurns}
 use Rattle.std.specs.declared.net.socket_addr.SocketAddr.{SocketAddr}
 use Rattle.ircd.specs.ClosedDoors.{SaysClosed, SaysFault}
-use Rattle.ircd.specs.Serving.{IsCutShort, IsFailed, IsOpened, IsReadSetup, IsTextOf, IsUnopened}
-use Rattle.ircd.specs.Serving.{Serves, ServesFile, ServesText, listening_of}
-use Rattle.ircd.specs.Serving.{front_dues, front_server, Front, IsAnswered}
+use Rattle.ircd.specs.Serving.{IsCutShort, IsFailed, IsNotServed, IsReadSettings, IsSetUp}
+use Rattle.ircd.specs.Serving.{IsUnopened, IsUnset, ServesFile, ServesText}
+use Rattle.ircd.specs.Serving.{Front, FrontTurns}
 use Rattle.ircd.specs.Serving.IsCutShort.{printing, unopened, unprinted}
 use Rattle.ircd.specs.Serving.IsFailed.{failed_opening, failed_serving}
-use Rattle.ircd.specs.Serving.{bad_motd, bad_text}
+use Rattle.ircd.specs.Serving.{bad_motd, bad_text, refused}
 use Rattle.ircd.specs.Serving.IsUnopened.{clients_closed, links_closed, untold}
 use Rattle.irc_sockets.specs.Listening.{IsFaultOf}
 use Rattle.irc_sockets.specs.declared.listen_fault.ListenFault.{ListenFault}
@@ -40,77 +38,53 @@ tells_nothing held text = all_lost (sink held []) text
 nothing_said : (held : Option (List ℕ)) → AreSomeSaid held held
 nothing_said held = ([], refl)
 
--- `ready` is cut short
-module _ {W : Type 0} (is_after : W → List Call → Type 0) (turns : ℕ)
-    (old new : EngineViewOf W Front) (held after said said_after : Option (List ℕ)) where
-  cut_by : (r : Result (Unit {0}) Stop) → Wrote held after ready_text
-      → AreSomeSaid said said_after → IsErrAnd r (λ stop. stop ≡ Failed)
-      → Serves is_after turns old new held after said said_after r
-  cut_by (Ok _) tells some failed = absurd failed
-  cut_by (Err stop) tells some failed = subst (λ s.
-      Serves is_after turns old new held after said said_after (Err s)) (sym failed) (tells, some)
+-- ---- why a text is not served
 
-  -- it was printed, and turns were taken
-  pub ready_said : (r : Result (Unit {0}) Stop) → Appends held after ready_text
-      → Wrote held after ready_text → TakesTurns is_after old turns new said said_after r
-      → Serves is_after turns old new held after said said_after r
-  ready_said (Ok _) appended tells gone = (appended, gone)
-  ready_said (Err stop) appended tells gone = cut_by (Err stop) tells gone.1 gone.0
+-- a text is no configuration
+pub text_refused : (text : List ℕ) (stop : Stop) (held said : Option (List ℕ))
+    → IsReadSettings text (Err stop) → IsNotServed text stop held held said said
+text_refused text BadConfiguration held said bad = (bad_text bad, refl, refl)
+text_refused text Failed held said bad = unprinted refl refl
+text_refused text Usage held said bad = absurd bad
+text_refused text (BadScript line) held said bad = absurd bad
 
-pub ready_cut : {W : Type 0} (is_after : W → List Call → Type 0) (turns : ℕ)
-    (old new : EngineViewOf W Front) (held after said : Option (List ℕ))
-    (r : Result (Unit {0}) Stop) → Wrote held after ready_text → IsErrAnd r (λ stop. stop ≡ Failed)
-    → Serves is_after turns old new held after said said r
-ready_cut is_after turns old new held after said r tells failed =
-    cut_by is_after turns old new held after said said r tells (nothing_said said) failed
-
--- a turn is not taken
-pub turns_stopped : {W : Type 0} (is_after : W → List Call → Type 0) (old : EngineViewOf W Front)
-    (turns : ℕ) (new : EngineViewOf W Front) (said said_after : Option (List ℕ))
-    (r : Result (Unit {0}) EngineFault) → RunsTellingBy is_after front_server IsAnswered front_dues
-    old said turns new said_after r
-    → TakesTurns is_after old turns new said said_after (Err Failed)
-turns_stopped is_after old turns new said said_after r runs =
-    (refl, runs_tell_some is_after old said turns new said_after r runs)
-
--- a text sets nothing up
-stopped_by : (text : List ℕ) (turns : ℕ) (stop : Stop) (held said : Option (List ℕ))
-    → IsReadSetup text (Err stop) → ServesText text turns (Err stop) held held said said
-stopped_by text turns BadConfiguration held said bad = (bad_text bad, refl, refl)
-stopped_by text turns Failed held said bad = unprinted refl refl
-stopped_by text turns Usage held said bad = absurd bad
-stopped_by text turns (BadScript line) held said bad = absurd bad
-
-pub text_refused : (text : List ℕ) (turns : ℕ) (r : Result (Unit {0}) Stop) (stop : Stop)
-    (held said : Option (List ℕ)) → IsReadSetup text (Err stop) → IsErrAnd r (λ e. e ≡ stop)
-    → ServesText text turns r held held said said
-text_refused text turns (Ok _) stop held said bad failed = absurd failed
-text_refused text turns (Err e) stop held said bad failed =
-    subst (λ s. ServesText text turns (Err s) held held said said) (sym failed)
-    (stopped_by text turns stop held said bad)
+-- its settings set nothing up
+pub settings_refused : (settings : Settings) (stop : Stop) (held said : Option (List ℕ))
+    → IsUnset settings stop → AreNotServed settings stop held held said said
+settings_refused settings BadConfiguration held said unset =
+    λ text read. (bad_text (refused settings read unset), refl, refl)
+settings_refused settings Failed held said unset = λ text read. unprinted refl refl
+settings_refused settings Usage held said unset = absurd unset
+settings_refused settings (BadScript line) held said unset = absurd unset
 
 -- a message of the day is named, and is not read
-unread_by : (text : List ℕ) (turns : ℕ) (stop : Stop) (setup : Setup)
-    (held said : Option (List ℕ)) → IsTextOf text setup → FindsManner setup (Err stop)
-    → ServesText text turns (Err stop) held held said said
-unread_by text turns BadConfiguration setup held said is named =
-    (bad_motd setup is named, refl, refl)
-unread_by text turns Failed setup held said is named = unprinted refl refl
-unread_by text turns Usage setup held said is named = absurd named
-unread_by text turns (BadScript line) setup held said is named = absurd named
+pub manner_unread : (settings : Settings) (setup : Setup) (stop : Stop)
+    (held said : Option (List ℕ)) → IsSetUp settings setup → FindsManner setup (Err stop)
+    → AreNotServed settings stop held held said said
+manner_unread settings setup BadConfiguration held said is named = λ text read. (
+  bad_motd setup (record { settings = settings; read = read; is_set_up = is }) named,
+  refl,
+  refl,
+)
+manner_unread settings setup Failed held said is named = λ text read. unprinted refl refl
+manner_unread settings setup Usage held said is named = absurd named
+manner_unread settings setup (BadScript line) held said is named = absurd named
 
-pub manner_unread : (text : List ℕ) (turns : ℕ) (r : Result (Unit {0}) Stop) (stop : Stop)
-    (setup : Setup) (held said : Option (List ℕ)) → IsTextOf text setup
-    → FindsManner setup (Err stop) → IsErrAnd r (λ e. e ≡ stop)
-    → ServesText text turns r held held said said
-manner_unread text turns (Ok _) stop setup held said is none failed = absurd failed
-manner_unread text turns (Err e) stop setup held said is none failed =
-    subst (λ s. ServesText text turns (Err s) held held said said) (sym failed)
-    (unread_by text turns stop setup held said is none)
+-- `ready` is not printed, or a front of it
+pub ready_cut : (settings : Settings) (engine : EngineViewOf MioWire Front)
+    (held after said said_after : Option (List ℕ)) → IsOpenedBy settings engine
+    → said_after ≡ said → Wrote held after ready_text
+    → AreNotServed settings Failed held after said said_after
+ready_cut settings engine held after said said_after is same tells =
+    λ text read. printing is.setup (record {
+      settings = settings;
+      read = read;
+      is_set_up = is.is_set_up;
+    }) tells (subst (λ s. AreSomeSaid said s) (sym same) (nothing_said said))
 
 -- nobody listens
 pub unopened_by : (setup : Setup) (fault : ListenFault) (said said_after : Option (List ℕ))
-    → IsFaultOf (listening_of setup) fault → SaysFault fault said said_after
+    → IsFaultOf setup.listening fault → SaysFault fault said said_after
     → IsUnopened setup said said_after
 unopened_by setup (Address address error) said said_after (inl at_clients) says = clients_closed
     (subst (λ (a : SocketAddr). SaysClosed a said said_after) at_clients says)
@@ -119,51 +93,71 @@ unopened_by setup (Address address error) said said_after (inr at_links) says =
 unopened_by setup (Other error) said said_after of says = untold says
 unopened_by setup Memory said said_after of says = untold says
 
-pub not_opened : (text : List ℕ) (turns : ℕ) (r : Result (Unit {0}) Stop) (stop : Stop)
-    (setup : Setup) (held said said_after : Option (List ℕ)) → IsTextOf text setup
-    → (stop ≡ Failed) × IsUnopened setup said said_after → IsErrAnd r (λ e. e ≡ stop)
-    → ServesText text turns r held held said said_after
-not_opened text turns (Ok _) stop setup held said said_after is none failed = absurd failed
-not_opened text turns (Err e) stop setup held said said_after is none failed =
-    subst (λ s. ServesText text turns (Err s) held held said said_after) (sym (failed ∙ none.0))
-    (unopened setup is refl none.1)
+-- what is set up is open, or it is not
+pub opened_by : {g : _} (settings : Settings) (setup : Setup)
+    (r : Result (Engine MioWire Front g) Stop) (said said_after : Option (List ℕ))
+    → IsSetUp settings setup → Opens setup r said said_after
+    → OpensBy settings r said said_after
+opened_by settings setup (Ok engine) said said_after is opens =
+    (record { setup = setup; is_set_up = is; is_opened = opens.0 }, opens.1)
+opened_by settings setup (Err stop) said said_after is opens =
+    λ held text read. subst (λ s. IsNotServed text s held held said said_after) (sym opens.0)
+    (unopened setup (record { settings = settings; read = read; is_set_up = is }) refl opens.1)
 
--- what it sets up is served
-text_served : (turns : ℕ) (first last : EngineViewOf MioWire Front) (text : List ℕ)
-    (setup : Setup) (held after said said_after : Option (List ℕ)) (r : Result (Unit {0}) Stop)
-    → IsTextOf text setup → IsOpened setup first
-    → Serves (λ wire calls. ⊤) turns first last held after said said_after r
+-- ---- where a call fails, what called it does
+
+pub unopened_for : {g : _} (settings : Settings) (r : Result (Engine MioWire Front g) Stop)
+    (stop : Stop) (said said_after : Option (List ℕ))
+    → ((held : Option (List ℕ)) → AreNotServed settings stop held held said said_after)
+    → IsErrAnd r (λ e. e ≡ stop) → OpensBy settings r said said_after
+unopened_for settings (Ok engine) stop said said_after not failed = absurd failed
+unopened_for settings (Err e) stop said said_after not failed =
+    λ held text read. subst (λ s. IsNotServed text s held held said said_after) (sym failed)
+    (not held text read)
+
+pub unbegun : {g : _} (settings : Settings) (r : Result (Engine MioWire Front g) Stop)
+    (stop : Stop) (held after said said_after : Option (List ℕ))
+    → AreNotServed settings stop held after said said_after → IsErrAnd r (λ e. e ≡ stop)
+    → Begins settings r held after said said_after
+unbegun settings (Ok engine) stop held after said said_after not failed = absurd failed
+unbegun settings (Err e) stop held after said said_after not failed =
+    λ text read. subst (λ s. IsNotServed text s held after said said_after) (sym failed)
+    (not text read)
+
+pub unserved : (text : List ℕ) (turns : ℕ) (r : Result (Unit {0}) Stop) (stop : Stop)
+    (held after said said_after : Option (List ℕ))
+    → IsNotServed text stop held after said said_after → IsErrAnd r (λ e. e ≡ stop)
     → ServesText text turns r held after said said_after
-text_served turns first last text setup held after said said_after (Ok _) is opened serves =
-    record {
-      setup = setup;
-      is_text_of = is;
+unserved text turns (Ok _) stop held after said said_after not failed = absurd failed
+unserved text turns (Err e) stop held after said said_after not failed =
+    subst (λ s. IsNotServed text s held after said said_after) (sym failed) not
+
+-- ---- what is open is served
+
+-- turns are taken of it, behind `ready`
+pub turns_served : (settings : Settings) (turns : ℕ) (first last : EngineViewOf MioWire Front)
+    (held after said between said_after : Option (List ℕ)) (r : Result (Unit {0}) Stop)
+    → IsOpenedBy settings first → Appends held after ready_text → Wrote held after ready_text
+    → between ≡ said → TakesTurns settings first turns last between said_after r
+    → ServesSettings settings turns r held after said said_after
+turns_served settings turns first last held after said between said_after (Ok _) is whole tells
+    same taken = λ text read. record {
+      setup = is.setup;
+      is_text_of = record { settings = settings; read = read; is_set_up = is.is_set_up };
       first = first;
       last = last;
-      is_opened = opened;
-      is_ready = serves.0;
-      taken = serves.1;
+      is_opened = is.is_opened;
+      is_ready = whole;
+      taken = subst (λ s. FrontTurns settings first s turns last said_after) same taken;
     }
-text_served turns first last text setup held after said said_after (Err Failed) is opened serves =
-    printing setup is serves.0 serves.1
-text_served turns first last text setup held after said said_after
-    (Err BadConfiguration) is opened serves = absurd serves
-text_served turns first last text setup held after said said_after (Err Usage) is opened serves =
-    absurd serves
-text_served turns first last text setup held after said said_after
-    (Err (BadScript line)) is opened serves = absurd serves
-
--- the same, where nothing was said before
-pub opened_served : (turns : ℕ) (first last : EngineViewOf MioWire Front) (text : List ℕ)
-    (setup : Setup) (held after said between said_after : Option (List ℕ))
-    (r : Result (Unit {0}) Stop) → IsTextOf text setup
-    → IsOpened setup first × (between ≡ said)
-    → Serves (λ wire calls. ⊤) turns first last held after between said_after r
-    → ServesText text turns r held after said said_after
-opened_served turns first last text setup held after said between said_after r is opened serves =
-    text_served turns first last text setup held after said said_after r is opened.0
-    (subst (λ s. Serves (λ wire calls. ⊤) turns first last held after s said_after r) opened.1
-    serves)
+turns_served settings turns first last held after said between said_after (Err stop) is whole
+    tells same taken = λ text read.
+    subst (λ s. IsNotServed text s held after said said_after) (sym taken.0)
+    (printing is.setup (record {
+      settings = settings;
+      read = read;
+      is_set_up = is.is_set_up;
+    }) tells (subst (λ s. AreSomeSaid s said_after) same taken.1))
 
 -- a file is not read
 pub file_refused : (turns : ℕ) (r : Result (Unit {0}) Stop) (stop : Stop)
@@ -190,7 +184,7 @@ nobody_listens : (setup : Setup) (held after said said_after : Option (List ℕ)
 nobody_listens setup held after said said_after is (untold same) =
     nothing_done held after said said_after is same
 nobody_listens setup held after said said_after is (clients_closed says) =
-    failed_opening setup.clients is says
+    failed_opening setup.listening.clients is says
 nobody_listens setup held after said said_after is (links_closed address at_links says) =
     failed_opening address is says
 

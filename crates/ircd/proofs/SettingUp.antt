@@ -18,15 +18,15 @@ use Rattle.irc_sockets.specs.declared.calls.Callee.{Callee}
 use Rattle.irc_endings.specs.declared.fault.Stop.{Stop}
 use Rattle.irc_endings.specs.declared.fault.Stop.TheVariants.{Usage, BadScript, BadConfiguration}
 use Rattle.irc_endings.specs.declared.fault.Stop.TheVariants.{Failed}
-use Rattle.ircd.specs.declared.setup.Setup.{Setup}
 use Rattle.irc_doorman.specs.declared.asks.Asks.{Asks}
-use Rattle.ircd.specs.Loops.SettingUp.{FindsAsks, FindsPassword}
+use Rattle.ircd.specs.Loops.SettingUp.{FindsAddress, FindsAsks, FindsPassword}
 use Rattle.ircd.specs.Loops.SettingUp.{FindsCallee, FindsCallees, FindsName, FindsOptional}
 use Rattle.ircd.specs.Loops.SettingUp.{FindsRanges}
-use Rattle.ircd.specs.Serving.{AreCalled, Configures, IsAddress, IsNoAddress, IsReadSetup}
-use Rattle.ircd.specs.Serving.{IsRefused, IsSomeUncalled, SetsUp}
-use Rattle.ircd.specs.Serving.{nobody, uncalled, called, no_address, no_name, this, later, links}
-use Rattle.ircd.specs.Serving.{asked, deny, no_password, proxies, server, refused}
+use Rattle.ircd.specs.Serving.{AreCalled, Configures, IsAddress, IsNoAddress}
+use Rattle.ircd.specs.Serving.{IsRefused, IsSomeUncalled, IsUnset, SetsUpPart}
+use Rattle.ircd.specs.Serving.{nobody, uncalled, called, no_address, no_name, this, later}
+use Rattle.ircd.specs.Serving.{no_password}
+use Rattle.ircd.specs.Serving.IsRefused.{asked, clients, deny, links, proxies, server}
 use Rattle.ircd.specs.Serving.IsRefused.{called as uncallable}
 use Rattle.irc_endings.specs.Statuses.{stop_of_config}
 
@@ -141,76 +141,65 @@ name_refused peer (Err e) stop address is found failed =
     written_so (option_map string_bytes peer.connect) address is in
     (failed ∙ found.0, no_name text.written_is found.1)
 
--- settings that are refused
-refused_by : (settings : Settings) (r : Result Setup Stop) (stop : Stop)
-    → IsErrAnd r (λ e. e ≡ stop) → stop ≡ BadConfiguration → IsRefused settings → SetsUp settings r
-refused_by settings (Ok _) stop failed is why = absurd failed
-refused_by settings (Err e) stop failed is why =
-    subst (λ s. SetsUp settings (Err s)) (sym (failed ∙ is)) why
+-- ---- why a part is not set up
 
-memory_out : (settings : Settings) (r : Result Setup Stop) → IsErrAnd r (λ e. e ≡ Failed)
-    → SetsUp settings r
-memory_out settings (Ok _) failed = absurd failed
-memory_out settings (Err e) failed = subst (λ s. SetsUp settings (Err s)) (sym failed) tt
+pub unset_part : {A : Type 0} (IsSo : A → Type 0) (settings : Settings) (r : Result A Stop)
+    (stop : Stop) → IsUnset settings stop → IsErrAnd r (λ e. e ≡ stop) → SetsUpPart IsSo settings r
+unset_part IsSo settings (Ok part) stop unset failed = absurd failed
+unset_part IsSo settings (Err e) stop unset failed =
+    subst (λ s. IsUnset settings s) (sym failed) unset
 
-pub calls_refused : (settings : Settings) (r : Result Setup Stop) (stop : Stop)
-    → FindsCallees settings.peers.items (Err stop) → IsErrAnd r (λ e. e ≡ stop) → SetsUp settings r
-calls_refused settings r BadConfiguration found failed =
-    refused_by settings r BadConfiguration failed refl (uncallable found)
-calls_refused settings r Failed found failed = memory_out settings r failed
-calls_refused settings r Usage found failed = absurd found
-calls_refused settings r (BadScript line) found failed = absurd found
+refused_by : (settings : Settings) (stop : Stop) → stop ≡ BadConfiguration → IsRefused settings
+    → IsUnset settings stop
+refused_by settings stop is why = subst (λ s. IsUnset settings s) (sym is) why
 
-pub links_refused : (settings : Settings) (r : Result Setup Stop) (stop : Stop)
+pub calls_refused : (settings : Settings) (stop : Stop)
+    → FindsCallees settings.peers.items (Err stop) → IsUnset settings stop
+calls_refused settings BadConfiguration found = uncallable found
+calls_refused settings Failed found = tt
+calls_refused settings Usage found = absurd found
+calls_refused settings (BadScript line) found = absurd found
+
+pub listen_refused : (settings : Settings) (stop : Stop)
+    → FindsAddress (string_bytes settings.listen) (Err stop) → IsUnset settings stop
+listen_refused settings stop found = refused_by settings stop found.0 (clients found.1)
+
+pub links_refused : (settings : Settings) (stop : Stop)
     → FindsOptional (option_map string_bytes settings.listen_links) (Err stop)
-    → IsErrAnd r (λ e. e ≡ stop) → SetsUp settings r
-links_refused settings r stop found failed =
+    → IsUnset settings stop
+links_refused settings stop found =
     let none : NotFound (option_map string_bytes settings.listen_links) stop =
     not_found (option_map string_bytes settings.listen_links) stop found in
-    refused_by settings r stop failed none.stop_is (links none.written_is none.is_none)
+    refused_by settings stop none.stop_is (links none.written_is none.is_none)
 
 -- of both lists of ranges alike
-ranges_refused : (settings : Settings) (texts : List (List ℕ)) (r : Result Setup Stop) (stop : Stop)
+ranges_refused : (settings : Settings) (texts : List (List ℕ)) (stop : Stop)
     → (IsSomeNoRange texts → IsRefused settings) → FindsRanges texts (Err stop)
-    → IsErrAnd r (λ e. e ≡ stop) → SetsUp settings r
-ranges_refused settings texts r BadConfiguration why found failed =
-    refused_by settings r BadConfiguration failed refl (why found)
-ranges_refused settings texts r Failed why found failed = memory_out settings r failed
-ranges_refused settings texts r Usage why found failed = absurd found
-ranges_refused settings texts r (BadScript line) why found failed = absurd found
+    → IsUnset settings stop
+ranges_refused settings texts BadConfiguration why found = why found
+ranges_refused settings texts Failed why found = tt
+ranges_refused settings texts Usage why found = absurd found
+ranges_refused settings texts (BadScript line) why found = absurd found
 
-pub deny_refused : (settings : Settings) (r : Result Setup Stop) (stop : Stop)
-    → FindsRanges (map string_bytes settings.deny.items) (Err stop) → IsErrAnd r (λ e. e ≡ stop)
-    → SetsUp settings r
-deny_refused settings r stop found failed =
-    ranges_refused settings (map string_bytes settings.deny.items) r stop (λ some. deny some) found
-    failed
+pub deny_refused : (settings : Settings) (stop : Stop)
+    → FindsRanges (map string_bytes settings.deny.items) (Err stop) → IsUnset settings stop
+deny_refused settings stop found =
+    ranges_refused settings (map string_bytes settings.deny.items) stop (λ some. deny some) found
 
-pub proxies_refused : (settings : Settings) (r : Result Setup Stop) (stop : Stop)
-    → FindsRanges (map string_bytes settings.proxies.items) (Err stop) → IsErrAnd r (λ e. e ≡ stop)
-    → SetsUp settings r
-proxies_refused settings r stop found failed =
-    ranges_refused settings (map string_bytes settings.proxies.items) r stop
-    (λ some. proxies some) found failed
+pub proxies_refused : (settings : Settings) (stop : Stop)
+    → FindsRanges (map string_bytes settings.proxies.items) (Err stop) → IsUnset settings stop
+proxies_refused settings stop found =
+    ranges_refused settings (map string_bytes settings.proxies.items) stop
+    (λ some. proxies some) found
 
-pub server_refused : (settings : Settings) (config : Config) (r : Result Setup Stop)
-    (fault : ConfigFault) → Configures settings config → IsMade config (Err fault)
-    → IsErrAnd r (λ e. e ≡ stop_of_config fault) → SetsUp settings r
-server_refused settings config r BadName configures made failed =
-    refused_by settings r BadConfiguration failed refl (server config configures (ap is_some made))
-server_refused settings config r DoubleName configures made failed =
-    refused_by settings r BadConfiguration failed refl (server config configures (ap is_some made))
-server_refused settings config r Memory configures made failed = memory_out settings r failed
-
--- what the settings of a text set up, the text does
-pub read_up : (text : List ℕ) (settings : Settings) (r : Result Setup Stop)
-    → AreSettingsOf text (Ok settings) → SetsUp settings r → IsReadSetup text r
-read_up text settings (Ok setup) read sets =
-    record { settings = settings; read = read; is_set_up = sets }
-read_up text settings (Err BadConfiguration) read sets = refused settings read sets
-read_up text settings (Err Failed) read sets = tt
-read_up text settings (Err Usage) read sets = absurd sets
-read_up text settings (Err (BadScript line)) read sets = absurd sets
+pub server_refused : (settings : Settings) (config : Config) (fault : ConfigFault)
+    → Configures settings config → IsMade config (Err fault)
+    → IsUnset settings (stop_of_config fault)
+server_refused settings config BadName configures made =
+    server config configures (ap is_some made)
+server_refused settings config DoubleName configures made =
+    server config configures (ap is_some made)
+server_refused settings config Memory configures made = tt
 
 -- ---- what clients are asked
 
@@ -231,7 +220,6 @@ password_refused settings r stop lent setting lent_as is found failed =
     by (Err e) (Some written) is found failed =
         (failed ∙ found.0, no_password (sym is) found.1)
 
-pub asks_refused : (settings : Settings) (r : Result Setup Stop) (stop : Stop)
-    → FindsAsks settings (Err stop) → IsErrAnd r (λ e. e ≡ stop) → SetsUp settings r
-asks_refused settings r stop found failed =
-    refused_by settings r stop failed found.0 (asked found.1)
+pub asks_refused : (settings : Settings) (stop : Stop) → FindsAsks settings (Err stop)
+    → IsUnset settings stop
+asks_refused settings stop found = refused_by settings stop found.0 (asked found.1)

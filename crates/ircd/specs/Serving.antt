@@ -1,32 +1,38 @@
 -- What a configuration sets up, and how serving ends.
 use Rattle.std.specs.Prelude.{◌≡◌, ℕ, Bool, true, false, Option, Some, None, Result, Ok, Err, List}
 use Rattle.std.specs.Prelude.{[], ◌∷◌, map, option_map, is_some, string_bytes, ⊤}
-use Rattle.std.specs.Prelude.{◌&&◌, if◌then◌else◌}
+use Rattle.std.specs.Prelude.{◌&&◌, ◌+◌, if◌then◌else◌}
 use Rattle.std.specs.List.{filter_map}
 use Rattle.std.specs.Str.Lines.{lines}
 use Rattle.std.specs.Io.KnownBytes.{Appends}
 use Rattle.std.specs.Net.Grammar.{IsSocketText}
 use Rattle.std.specs.declared.net.socket_addr.SocketAddr.{SocketAddr}
-use Rattle.irc_outbox.specs.Calls.{Call}
 use Rattle.irc_names.specs.Names.{IsServer, is_server}
 use Rattle.irc_settings.specs.declared.settings.Settings.{Settings}
 use Rattle.irc_settings.specs.declared.settings.LinesPace.{LinesPace as SettingsPace}
 use Rattle.irc_settings.specs.declared.settings.PeerSettings.{PeerSettings}
 use Rattle.irc_settings.specs.Configuration.{AreSettingsOf, is_configuration}
+use Rattle.irc_settings.specs.declared.fixed.FixedKey.{FixedKey}
+use Rattle.irc_settings.specs.Fixed.{differs_at, fixed_keys, key_name}
 use Rattle.irc_server.specs.declared.config.Config.{Config}
 use Rattle.irc_server.specs.Configuring.{config_fault, made_view}
 use Rattle.irc_stage.specs.View.{KnownPeer, View, known_peer}
 use Rattle.irc_engine.specs.Machines.{never_due, Dues, Handles}
 use Rattle.irc_engine.specs.Turning.{IsNew}
 use Rattle.irc_engine.specs.EngineView.{EngineViewOf}
-use Rattle.irc_engine.specs.Telling.{ToldTurnsBy}
-use Rattle.irc_journal.specs.Saying.{AreSomeSaid}
+use Rattle.irc_engine.specs.declared.engine.EngineFault.{EngineFault}
+use Rattle.irc_engine.specs.Altering.{IsAltered}
+use Rattle.irc_engine.specs.Telling.{TellsTurnedBy}
+use Rattle.irc_journal.specs.declared.rereading.Rereading.{Rereading}
+use Rattle.irc_journal.specs.declared.rereading.Rereading.TheVariants.{Taken}
+use Rattle.irc_journal.specs.Rereadings.{rereading_line, restart_line}
+use Rattle.irc_journal.specs.Saying.{AreSomeSaid, IsFrontSaid}
 use Rattle.irc_door.specs.declared.door.Door.{Door}
 use Rattle.irc_door.specs.declared.manner.Manner.{Manner}
 use Rattle.irc_door.specs.declared.manner.Programs.{Programs}
 use Rattle.irc_door.specs.declared.manner.Programs.TheVariants.{Off, Usual}
 use Rattle.irc_door.specs.declared.motd.Motd.{Motd}
-use Rattle.irc_door.specs.Doors.{dues_by, server_behind, IsTurned}
+use Rattle.irc_door.specs.Doors.{announcing, dues_by, server_behind, IsTurned}
 use Rattle.irc_door.specs.MessagesOfTheDay.{has_room, is_message, lines_of}
 use Rattle.irc_doorman.specs.declared.asks.Asks.{Asks}
 use Rattle.irc_doorman.specs.declared.doorman.Doorman.{Doorman}
@@ -44,14 +50,16 @@ use Rattle.irc_entrance.specs.Ranges.{AreRanges, IsSomeNoRange}
 use Rattle.irc_turns.specs.Spreads.{name_spread}
 use Rattle.irc_turns.specs.declared.allowance.LinesPace.{LinesPace}
 use Rattle.irc_sockets.specs.declared.calls.Callee.{Callee}
-use Rattle.irc_sockets.specs.declared.limits.Limits.{Limits}
 use Rattle.irc_sockets.specs.declared.listening.Listening.{Listening}
 use Rattle.irc_sockets.specs.declared.mio_wire.MioWire.{MioWire}
-use Rattle.irc_sockets.specs.Listening.{ListensAt}
+use Rattle.irc_sockets.specs.declared.limits.Limits.{Limits}
+use Rattle.irc_sockets.specs.Listening.{IsLimited, ListensAt}
 use Rattle.irc_endings.specs.declared.fault.Stop.{Stop}
 use Rattle.irc_endings.specs.declared.fault.Stop.TheVariants.{Usage, BadScript, BadConfiguration}
 use Rattle.irc_endings.specs.declared.fault.Stop.TheVariants.{Failed}
+use Rattle.ircd.specs.declared.setup.Calls.{Calls}
 use Rattle.ircd.specs.declared.setup.Setup.{Setup}
+use Rattle.ircd.specs.declared.setup.Speech.{Speech}
 use Rattle.ircd.specs.ClosedDoors.{SaysClosed}
 use Rattle.irc_endings.specs.Sinks.{Wrote}
 use Rattle.irc_endings.specs.Ready.{ready_text}
@@ -141,34 +149,53 @@ pub data CannotBeAsked (settings : Settings) : Type 0 where
   no_password : {text : List ℕ} → option_map string_bytes settings.password ≡ Some text
       → ¬ (IsClientPassword text) → CannotBeAsked settings
 
--- The server is made of the settings, without clients, and of their name; where it listens, from
--- where no client comes in, from where proxies come, whom it calls, without the word by which
--- pieces are counted too, and again when, by its own name too, how many connections an address may
--- have, how many of these for links without a name and for how long, to which pace of lines clients
--- keep, what these are told beside the profile and asked, which file holds the message of the day,
--- and how much may wait is theirs.
-pub record IsSetUp (settings : Settings) (setup : Setup) : Type 0 where
+-- the server is made of the settings, without clients
+pub record IsServerOf (settings : Settings) (server : Option View) : Type 0 where
   pub config : Config
   pub configures : Configures settings config
   pub no_fault : config_fault config ≡ None
-  pub server_is : setup.server ≡ Some (made_view config)
-  pub clients : IsSocketText (string_bytes settings.listen) setup.clients
-  pub links : IsAddress (option_map string_bytes settings.listen_links) setup.links
-  pub deny : AreRanges (map string_bytes settings.deny.items) setup.deny.items
-  pub proxies : AreRanges (map string_bytes settings.proxies.items) setup.proxies.items
-  pub called : AreCalled settings.peers.items setup.callees.items
-  pub plain : setup.plain.items ≡ plain_names settings.peers.items
-  pub spread : setup.spread ≡ name_spread (string_bytes settings.name)
-  pub connections_per_address : setup.connections_per_address ≡ settings.connections_per_address
-  pub name_within : setup.name_within ≡ settings.name_within
-  pub links_per_address : setup.links_per_address ≡ settings.links_per_address
-  pub register_within : setup.register_within ≡ settings.register_within
-  pub pace : setup.pace ≡ pace_set settings.pace
-  pub programs : setup.programs ≡ programs_set settings.programs
-  pub motd : option_map string_bytes setup.motd ≡ option_map string_bytes settings.motd
-  pub asks : AreAsksOf settings setup.asks
-  pub client_room : setup.client_room ≡ settings.client_room
-  pub link_room : setup.link_room ≡ settings.link_room
+  pub server_is : server ≡ Some (made_view config)
+
+-- how many connections an address may have, how many of these for links without a name, to which
+-- pace of lines clients keep, from where no client comes in, and from where proxies come
+pub record AreLimitsOf (settings : Settings) (limits : Limits) : Type 0 where
+  pub connections_per_address : limits.connections_per_address ≡ settings.connections_per_address
+  pub links_per_address : limits.links_per_address ≡ settings.links_per_address
+  pub pace : limits.pace ≡ pace_set settings.pace
+  pub deny : AreRanges (map string_bytes settings.deny.items) limits.deny.items
+  pub proxies : AreRanges (map string_bytes settings.proxies.items) limits.proxies.items
+
+-- where it listens, for clients, and for links or for none, how much may wait, for how long one may
+-- stay there without a name or without becoming a user, and the limits
+pub record IsListeningOf (settings : Settings) (listening : Listening) : Type 0 where
+  pub clients : IsSocketText (string_bytes settings.listen) listening.clients
+  pub links : IsAddress (option_map string_bytes settings.listen_links) listening.links
+  pub client_room : listening.client_room ≡ settings.client_room
+  pub link_room : listening.link_room ≡ settings.link_room
+  pub name_within : listening.name_within ≡ settings.name_within
+  pub register_within : listening.register_within ≡ settings.register_within
+  pub limits : AreLimitsOf settings listening.limits
+
+-- whom it calls, without the word by which pieces are counted too, and again when, by its own name
+-- too
+pub record AreCallsOf (settings : Settings) (calls : Calls) : Type 0 where
+  pub called : AreCalled settings.peers.items calls.callees.items
+  pub plain : calls.plain.items ≡ plain_names settings.peers.items
+  pub spread : calls.spread ≡ name_spread (string_bytes settings.name)
+
+-- what clients are told beside the profile, which file holds the message of the day, and what they
+-- are asked
+pub record IsSpeechOf (settings : Settings) (speech : Speech) : Type 0 where
+  pub programs : speech.programs ≡ programs_set settings.programs
+  pub motd : option_map string_bytes speech.motd ≡ option_map string_bytes settings.motd
+  pub asks : AreAsksOf settings speech.asks
+
+-- All of it is the settings'.
+pub record IsSetUp (settings : Settings) (setup : Setup) : Type 0 where
+  pub server : IsServerOf settings setup.server
+  pub listening : IsListeningOf settings setup.listening
+  pub calls : AreCallsOf settings setup.calls
+  pub speech : IsSpeechOf settings setup.speech
 
 -- why nothing is set up by settings: an address or a range that is none, a peer that cannot be
 -- called, or is named as no server is, a server that is refused, or clients that cannot be asked
@@ -183,13 +210,21 @@ pub data IsRefused (settings : Settings) : Type 0 where
       → IsRefused settings
   asked : CannotBeAsked settings → IsRefused settings
 
+-- they are refused, or memory ran out
+abbrev pub IsUnset : Settings → Stop → Type 0
+IsUnset settings BadConfiguration = IsRefused settings
+IsUnset settings Failed = ⊤
+IsUnset settings Usage = ⊥
+IsUnset settings (BadScript line) = ⊥
+
+-- what comes of settings, where a part of what they set up is to be so
+abbrev pub SetsUpPart : {A : Type 0} → (A → Type 0) → Settings → Result A Stop → Type 0
+SetsUpPart IsSo settings (Ok part) = IsSo part
+SetsUpPart IsSo settings (Err stop) = IsUnset settings stop
+
 -- what comes of settings
 abbrev pub SetsUp : Settings → Result Setup Stop → Type 0
-SetsUp settings (Ok setup) = IsSetUp settings setup
-SetsUp settings (Err BadConfiguration) = IsRefused settings
-SetsUp settings (Err Failed) = ⊤
-SetsUp settings (Err Usage) = ⊥
-SetsUp settings (Err (BadScript line)) = ⊥
+SetsUp settings result = SetsUpPart (IsSetUp settings) settings result
 
 -- what comes of a text: it is a configuration whose settings set this up; or it is none, or one
 -- whose settings are refused
@@ -203,12 +238,13 @@ pub data IsBadText (text : List ℕ) : Type 0 where
   refused : (settings : Settings) → AreSettingsOf text (Ok settings) → IsRefused settings
       → IsBadText text
 
-abbrev pub IsReadSetup : List ℕ → Result Setup Stop → Type 0
-IsReadSetup text (Ok setup) = IsTextOf text setup
-IsReadSetup text (Err BadConfiguration) = IsBadText text
-IsReadSetup text (Err Failed) = ⊤
-IsReadSetup text (Err Usage) = ⊥
-IsReadSetup text (Err (BadScript line)) = ⊥
+-- what comes of reading settings
+abbrev pub IsReadSettings : List ℕ → Result Settings Stop → Type 0
+IsReadSettings text (Ok settings) = AreSettingsOf text (Ok settings)
+IsReadSettings text (Err BadConfiguration) = IsBadText text
+IsReadSettings text (Err Failed) = ⊤
+IsReadSettings text (Err Usage) = ⊥
+IsReadSettings text (Err (BadScript line)) = ⊥
 
 -- ---- how clients are spoken to
 
@@ -227,11 +263,11 @@ HasMotd None room (Some motd) = ⊥
 HasMotd (Some file) room None = ⊥
 
 abbrev pub motd_file : Setup → Option (List ℕ)
-motd_file setup = option_map string_bytes setup.motd
+motd_file setup = option_map string_bytes setup.speech.motd
 
 pub record IsMannerOf (setup : Setup) (manner : Manner) : Type 0 where
-  pub programs : manner.programs ≡ setup.programs
-  pub motd : HasMotd (motd_file setup) setup.client_room manner.motd
+  pub programs : manner.programs ≡ setup.speech.programs
+  pub motd : HasMotd (motd_file setup) setup.listening.client_room manner.motd
 
 -- why nothing is served by a text: it is bad; or it names a file that cannot be read, or holds no
 -- message of the day, or one without room
@@ -239,31 +275,6 @@ pub data IsUnserved (text : List ℕ) : Type 0 where
   bad_text : IsBadText text → IsUnserved text
   bad_motd : (setup : Setup) → IsTextOf text setup → is_some (motd_file setup) ≡ true
       → IsUnserved text
-
--- who comes in to a server that was set up, and how much of each is taken
-abbrev pub limits_of : Setup → Limits
-limits_of setup =
-    record {
-      connections_per_address = setup.connections_per_address;
-      links_per_address = setup.links_per_address;
-      pace = setup.pace;
-      deny = setup.deny;
-      proxies = setup.proxies;
-    }
-
--- where a server that was set up is to listen, who is let in there, what the connections of an
--- address may be, and how much may wait for one
-abbrev pub listening_of : Setup → Listening
-listening_of setup =
-    record {
-      clients = setup.clients;
-      links = setup.links;
-      client_room = setup.client_room;
-      link_room = setup.link_room;
-      name_within = setup.name_within;
-      register_within = setup.register_within;
-      limits = limits_of setup;
-    }
 
 -- What serves: a door in front of a doorman in front of a hold in front of a layer around a server.
 abbrev pub Inner : Type 0
@@ -309,42 +320,85 @@ pub record IsOpened (setup : Setup) (engine : EngineViewOf MioWire Front) : Type
   pub speaks : IsMannerOf setup manner
   pub layer : Layer
   pub door : Front
-  pub front : IsFrontOf layer setup.programs setup.asks manner door
-  pub is_around : IsAround setup.server setup.plain.items layer
+  pub front : IsFrontOf layer setup.speech.programs setup.speech.asks manner door
+  pub is_around : IsAround setup.server setup.calls.plain.items layer
   pub sockets : MioWire
-  pub listens : ListensAt (listening_of setup) sockets
-  pub callees : sockets.calls.asked ≡ setup.callees
-  pub spread : sockets.calls.retries.spread ≡ setup.spread
-  pub is_new : IsNew door sockets setup.client_room setup.link_room engine
+  pub listens : ListensAt setup.listening sockets
+  pub callees : sockets.calls.asked ≡ setup.calls.callees
+  pub spread : sockets.calls.retries.spread ≡ setup.calls.spread
+  pub is_new : IsNew door sockets setup.listening.client_room setup.listening.link_room engine
 
 -- None is: nothing was said; or that it cannot listen where clients, or servers, are to come.
 pub data IsUnopened (setup : Setup) (errors errors_after : Option (List ℕ)) : Type 0 where
   untold : errors_after ≡ errors → IsUnopened setup errors errors_after
-  clients_closed : SaysClosed setup.clients errors errors_after
+  clients_closed : SaysClosed setup.listening.clients errors errors_after
       → IsUnopened setup errors errors_after
-  links_closed : (address : SocketAddr) → setup.links ≡ Some address
+  links_closed : (address : SocketAddr) → setup.listening.links ≡ Some address
       → SaysClosed address errors errors_after → IsUnopened setup errors errors_after
 
--- so many turns of an engine with them, with what is said behind each
-abbrev pub FrontTurns : {W : Type 0} → (W → List Call → Type 0) → EngineViewOf W Front
-    → Option (List ℕ) → ℕ → EngineViewOf W Front → Option (List ℕ) → Type 0
-FrontTurns is_after old held turns new after =
-    ToldTurnsBy is_after front_server IsAnswered front_dues old held turns new after
+-- one turn of an engine with them, with what is said behind it
+abbrev pub FrontTurn : EngineViewOf MioWire Front → Option (List ℕ) → EngineViewOf MioWire Front
+    → Option (List ℕ) → Result (Unit {0}) EngineFault → Type 0
+FrontTurn old held new after result = TellsTurnedBy (λ wire calls. ⊤) front_server IsAnswered
+    front_dues old new held after result
 
--- `ready` was printed, all turns were taken, and behind each what there was to tell was said; else
--- a front of `ready` was printed, the program failed, and what was said is lines of the journal
-abbrev pub Serves : {W : Type 0} → (W → List Call → Type 0) → ℕ → EngineViewOf W Front
-    → EngineViewOf W Front
-    → Option (List ℕ) → Option (List ℕ) → Option (List ℕ) → Option (List ℕ) → Result (Unit {0}) Stop
-    → Type 0
-Serves is_after turns old new printed printed_after errors errors_after (Ok _) =
-    Appends printed printed_after ready_text
-    × FrontTurns is_after old errors turns new errors_after
-Serves is_after turns old new printed printed_after errors errors_after (Err Failed) =
-    Wrote printed printed_after ready_text × AreSomeSaid errors errors_after
-Serves is_after turns old new printed printed_after errors errors_after (Err BadConfiguration) = ⊥
-Serves is_after turns old new printed printed_after errors errors_after (Err Usage) = ⊥
-Serves is_after turns old new printed printed_after errors errors_after (Err (BadScript line)) = ⊥
+-- ---- what is read again
+
+-- What of a configuration changes while the server runs: who comes in, and how much of each is
+-- taken, and the message of the day.
+abbrev pub Changes : Limits → Option Motd → MioWire → Front → MioWire → Front → Type 0
+Changes limits motd wire door wire_after door_after =
+    IsLimited limits wire wire_after × (door_after ≡ announcing motd door)
+
+-- it is changed as was set up; an outbox of so many bytes has room for the message
+pub record IsChanged (setup : Setup) (room : ℕ) (old new : EngineViewOf MioWire Front) :
+    Type 0 where
+  pub motd : Option Motd
+  pub has_motd : HasMotd (motd_file setup) room motd
+  pub altered :
+      IsAltered (λ wire calls. ⊤) front_server (Changes setup.listening.limits motd) old new
+
+-- where something else stands at a key now than the server has, it is said that it wants a restart
+abbrev pub IsRestartSaid : Bool → List ℕ → Option (List ℕ) → Option (List ℕ) → Type 0
+IsRestartSaid false key held after = after ≡ held
+IsRestartSaid true key held after = IsFrontSaid (restart_line key) held after
+
+-- so it is said of each of these keys
+abbrev pub AreRestartsSaid : List FixedKey → Settings → Settings → Option (List ℕ)
+    → Option (List ℕ) → Type 0
+AreRestartsSaid [] first now held after = after ≡ held
+AreRestartsSaid (key ∷ keys) first now held after =
+    (between : Option (List ℕ))
+    × IsRestartSaid (differs_at key first now) (key_name key) held between
+    × AreRestartsSaid keys first now between after
+
+-- something else came of it than that it was read
+abbrev pub is_refusal : Rereading → Bool
+is_refusal Taken = false
+is_refusal what = true
+
+-- What comes of a look: nothing was asked for; or the file is not read again, nothing has changed,
+-- and it is said why; or it is, and some text sets up what is changed.
+pub data Rereads (first : Settings) (old : EngineViewOf MioWire Front)
+    (held : Option (List ℕ)) : EngineViewOf MioWire Front → Option (List ℕ) → Type 0 where
+  unasked : Rereads first old held old held
+  unread : (what : Rereading) (after : Option (List ℕ)) → is_refusal what ≡ true
+      → IsFrontSaid (rereading_line what) held after → Rereads first old held old after
+  reread : (text : List ℕ) (setup : Setup) (is : IsTextOf text setup)
+      (new : EngineViewOf MioWire Front) (between after : Option (List ℕ))
+      → IsChanged setup first.client_room old new
+      → IsFrontSaid (rereading_line Taken) held between
+      → AreRestartsSaid fixed_keys first is.settings between after
+      → Rereads first old held new after
+
+-- so many turns, with what is said behind each, and a look behind it or none
+pub data FrontTurns (first : Settings) (old : EngineViewOf MioWire Front)
+    (held : Option (List ℕ)) : ℕ → EngineViewOf MioWire Front → Option (List ℕ) → Type 0 where
+  no_turn : FrontTurns first old held 0 old held
+  one_more : (n : ℕ) (between turned new : EngineViewOf MioWire Front)
+      (said told after : Option (List ℕ)) → FrontTurns first old held n between said
+      → FrontTurn between said turned told (Ok tt) → Rereads first turned told new after
+      → FrontTurns first old held (n + 1) new after
 
 -- where the program failed: nothing was printed or said; or the text sets up a server, and nothing
 -- was printed, since none is open; or a front of `ready` was, and what was said is of the journal
@@ -359,8 +413,8 @@ pub data IsCutShort (text : List ℕ) (printed printed_after errors errors_after
       → AreSomeSaid errors errors_after → IsCutShort text printed printed_after errors errors_after
 
 -- A text was served: it sets up a server; once this was open, `ready` was printed, and all of so
--- many turns were taken, with what there was to tell said behind each. Sockets keep no account of
--- their calls.
+-- many turns were taken, with what there was to tell said behind each, and the file read again
+-- where that was asked for. Sockets keep no account of their calls.
 pub record IsServed (text : List ℕ) (turns : ℕ)
     (printed printed_after errors errors_after : Option (List ℕ)) : Type 0 where
   pub setup : Setup
@@ -369,20 +423,26 @@ pub record IsServed (text : List ℕ) (turns : ℕ)
   pub last : EngineViewOf MioWire Front
   pub is_opened : IsOpened setup first
   pub is_ready : Appends printed printed_after ready_text
-  pub taken : FrontTurns (λ wire calls. ⊤) first errors turns last errors_after
+  pub taken : FrontTurns is_text_of.settings first errors turns last errors_after
 
--- How serving by a text ends: anything was printed or said only where the text sets up a server; a
--- bad text is refused, and so is one whose message of the day is, and nothing printed or said.
+-- Why a text is not served: it is bad, or its message of the day is, and nothing was printed or
+-- said; or the program failed, and anything was printed or said only where it sets up a server.
+abbrev pub IsNotServed : List ℕ → Stop
+    → (printed printed_after errors errors_after : Option (List ℕ)) → Type 0
+IsNotServed text BadConfiguration printed printed_after errors errors_after =
+    IsUnserved text × (printed_after ≡ printed) × (errors_after ≡ errors)
+IsNotServed text Failed printed printed_after errors errors_after =
+    IsCutShort text printed printed_after errors errors_after
+IsNotServed text Usage printed printed_after errors errors_after = ⊥
+IsNotServed text (BadScript line) printed printed_after errors errors_after = ⊥
+
+-- how serving by a text ends
 abbrev pub ServesText : List ℕ → ℕ → Result (Unit {0}) Stop
     → (printed printed_after errors errors_after : Option (List ℕ)) → Type 0
 ServesText text turns (Ok _) printed printed_after errors errors_after =
     IsServed text turns printed printed_after errors errors_after
-ServesText text turns (Err BadConfiguration) printed printed_after errors errors_after =
-    IsUnserved text × (printed_after ≡ printed) × (errors_after ≡ errors)
-ServesText text turns (Err Failed) printed printed_after errors errors_after =
-    IsCutShort text printed printed_after errors errors_after
-ServesText text turns (Err Usage) printed printed_after errors errors_after = ⊥
-ServesText text turns (Err (BadScript line)) printed printed_after errors errors_after = ⊥
+ServesText text turns (Err stop) printed printed_after errors errors_after =
+    IsNotServed text stop printed printed_after errors errors_after
 
 -- the same of any text: a front of `ready` was printed, and what was said is of the journal; or
 -- nothing was, and what was said is of an address

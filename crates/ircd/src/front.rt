@@ -4,29 +4,29 @@ ghost use Rattle.irc_engine.specs.Knowing.{HasNobody};
 ghost use Rattle.irc_layer.specs.Layers.{server_of};
 ghost use Rattle.ircd.specs.Serving.{front_server, negotiations_of, IsFrontOf};
 
+use crate::setup::Speech;
 use irc_door::{Door, Manner, Programs};
-use irc_doorman::{Asks, Doorman};
+use irc_doorman::Doorman;
+use irc_engine::Engine;
 use irc_hold::{Hold, Negotiations};
 use irc_layer::Layer;
+use irc_sockets::MioWire;
 use std::alloc::Global;
 
 /// What serves.
 pub(crate) type Front = Door<Doorman<Hold<Layer>>>;
 
+/// What serves, over sockets.
+pub(crate) type Served = Engine<MioWire, Front>;
+
 /// What stands in front of a layer whose server nobody is connected to.
-pub(crate) fn front_of(
-    alloc: Global,
-    layer: Layer,
-    programs: Programs,
-    asks: Asks,
-    manner: Manner,
-) -> Front
+pub(crate) fn front_of(alloc: Global, layer: Layer, speech: Speech, manner: Manner) -> Front
     requires nobody { HasNobody (server_of layer) }
-    ensures front { IsFrontOf layer programs asks manner result }
+    ensures front { IsFrontOf layer speech.programs speech.asks manner result }
     ensures nobody { HasNobody (front_server result) }
 {
-    let hold = Hold::new(alloc, layer, negotiations(programs));
-    let doorman = Doorman::new(alloc, hold, asks);
+    let hold = Hold::new(alloc, layer, negotiations(speech.programs));
+    let doorman = Doorman::new(alloc, hold, speech.asks);
     Door::new(alloc, doorman, manner)
 }
 

@@ -10,6 +10,7 @@ mod front;
 mod program;
 #[cfg(test)]
 mod program_tests;
+mod rereading;
 mod serve;
 #[cfg(test)]
 mod serve_tests;

@@ -4,28 +4,38 @@ ghost use Rattle.irc_endings.specs.declared.fault.Stop.TheVariants.{Failed};
 ghost use Rattle.irc_engine.specs.Knowing.{HasNobody};
 ghost use Rattle.irc_engine.specs.EngineView.{engine_view};
 ghost use Rattle.ircd.specs.ClosedDoors.{SaysFault};
-ghost use Rattle.ircd.specs.Loops.Turns.{IsOfFile, IsRun, Opens, TakesTurns};
+ghost use Rattle.ircd.specs.Loops.Turns.{Begins, IsOfFile, Opens, OpensBy, ServesSettings};
+ghost use Rattle.ircd.specs.Loops.Turns.{TakesTurn, TakesTurns};
 ghost use Rattle.ircd.specs.Loops.Manners.{FindsManner, FindsMotd, IsMotdIn, ReadsMotd};
 ghost use Rattle.ircd.specs.Serving.{IsMannerOf, ServesFile, ServesText};
 
 use crate::closed_door::say_closed;
-use crate::front::{Front, front_of};
-use crate::setup::{Setup, read_setup};
+use crate::front::{Served, front_of};
+use crate::rereading::{Looks, Watch, look_in_time};
+use crate::setup::{Setup, set_up, settings_in};
 use irc_door::{Manner, Motd, MotdFault};
 use irc_endings::{Stop, say_ready};
 use irc_engine::Engine;
 use irc_layer::Layer;
-use irc_outbox::Wire;
-use irc_sockets::{Limits, ListenFault, Listening, MioWire};
+use irc_settings::Settings;
+use irc_sockets::{ListenFault, MioWire};
+use irc_turns::Lookout;
 use std::alloc::Global;
 use std::fs::{Files, read_to_string};
 use std::io::{ErrorKind, Write};
 use std::net::Net;
 
+/// A configuration, and the name of the file that it is of.
+#[derive(Drop)]
+struct Source<'a> {
+    file: &'a str,
+    text: &'a str,
+}
+
 /// Serves as a file says, for so many turns. Says `ready` as soon as clients and servers can
 /// connect, and the servers that it calls are called, whether they are reached or not. What becomes
 /// of links is said to `errors` behind each turn, and before that an address at which the system
-/// lets nobody listen.
+/// lets nobody listen. Where a file `.reload` stands beside it, it is read again.
 ///
 /// # Errors
 /// - [`Stop::BadConfiguration`] where the file cannot be read, or is no configuration, or names a
@@ -43,7 +53,11 @@ pub fn serve<T: AllocGlobal + Files + Net, O: Write, E: Write>(
         (E.contents errors.old) (E.contents errors.new) }
 {
     let text = read_file(rt, file)?;
-    serve_text(rt, text.as_str(), turns, output, errors)
+    let source = Source {
+        file,
+        text: text.as_str(),
+    };
+    serve_text(rt, &source, turns, output, errors)
 }
 
 /// All that a file holds.
@@ -57,21 +71,63 @@ fn read_file<T: AllocGlobal + Files>(rt: &T, file: &str) -> Result<String, Stop>
     }
 }
 
-/// Serves as a text says.
+/// Serves as a text says, and as the file does that it is of, where this is read again.
 fn serve_text<T: AllocGlobal + Files + Net, O: Write, E: Write>(
     rt: &T,
-    text: &str,
+    source: &Source,
     turns: u64,
     output: &mut O,
     errors: &mut E,
 ) -> Result<(), Stop>
-    ensures { ServesText text.now turns result (O.contents output.old) (O.contents output.new)
+    ensures { ServesText source.now.text.now turns result (O.contents output.old)
+        (O.contents output.new) (E.contents errors.old) (E.contents errors.new) }
+{
+    let settings = settings_in(rt.alloc(), source.text)?;
+    let watch = Watch::new(rt.alloc(), source.file, &settings)?;
+    serve_watched(rt, &watch, turns, output, errors)
+}
+
+/// Serves as the settings say that are watched.
+fn serve_watched<T: AllocGlobal + Files + Net, O: Write, E: Write>(
+    rt: &T,
+    watch: &Watch,
+    turns: u64,
+    output: &mut O,
+    errors: &mut E,
+) -> Result<(), Stop>
+    ensures { ServesSettings watch.now.settings.now turns result (O.contents output.old)
+        (O.contents output.new) (E.contents errors.old) (E.contents errors.new) }
+{
+    let mut engine = begin(rt, watch.settings, output, errors)?;
+    take_turns(rt, watch, &mut engine, turns, errors)
+}
+
+/// An engine that listens, and has called whom it is to call; `ready` is said.
+fn begin<T: AllocGlobal + Files + Net, O: Write, E: Write>(
+    rt: &T,
+    settings: &Settings,
+    output: &mut O,
+    errors: &mut E,
+) -> Result<Served, Stop>
+    ensures { Begins settings.now result (O.contents output.old) (O.contents output.new)
         (E.contents errors.old) (E.contents errors.new) }
 {
-    let setup = read_setup(rt.alloc(), text)?;
+    let engine = open_by(rt, settings, errors)?;
+    say_ready(output)?;
+    Ok(engine)
+}
+
+/// An engine that listens, as settings say.
+fn open_by<T: AllocGlobal + Files + Net, E: Write>(
+    rt: &T,
+    settings: &Settings,
+    errors: &mut E,
+) -> Result<Served, Stop>
+    ensures { OpensBy settings.now result (E.contents errors.old) (E.contents errors.new) }
+{
+    let setup = set_up(rt.alloc(), settings)?;
     let manner = manner_of(rt, &setup)?;
-    let mut engine = open(rt, rt.alloc(), setup, manner, errors)?;
-    run_engine(&mut engine, turns, output, errors)
+    open(rt, rt.alloc(), setup, manner, errors)
 }
 
 /// How clients are spoken to.
@@ -79,13 +135,13 @@ fn manner_of<T: AllocGlobal + Files>(rt: &T, setup: &Setup) -> Result<Manner, St
     ensures { FindsManner setup.now result }
 {
     Ok(Manner {
-        programs: setup.programs,
-        motd: optional_motd(rt, setup.motd.as_ref(), setup.client_room)?,
+        programs: setup.speech.programs,
+        motd: optional_motd(rt, setup.speech.motd.as_ref(), setup.listening.client_room)?,
     })
 }
 
 /// The message of the day that stands in a file, if one is named.
-fn optional_motd<T: AllocGlobal + Files>(
+pub(crate) fn optional_motd<T: AllocGlobal + Files>(
     rt: &T,
     file: Option<&String>,
     room: usize,
@@ -131,33 +187,21 @@ fn open<T: Net, E: Write>(
     setup: Setup,
     manner: Manner,
     errors: &mut E,
-) -> Result<Engine<MioWire, Front>, Stop>
+) -> Result<Served, Stop>
     requires nobody { HasNobody setup.server }
     requires manner { IsMannerOf setup manner }
     ensures { Opens setup result (E.contents errors.old) (E.contents errors.new) }
 {
-    let listening = Listening {
-        clients: setup.clients,
-        links: setup.links,
-        client_room: setup.client_room,
-        link_room: setup.link_room,
-        name_within: setup.name_within,
-        register_within: setup.register_within,
-        limits: Limits {
-            connections_per_address: setup.connections_per_address,
-            links_per_address: setup.links_per_address,
-            pace: setup.pace,
-            deny: setup.deny,
-            proxies: setup.proxies,
-        },
-    };
-    let wire = match MioWire::listen(net, alloc, listening, setup.callees, setup.spread) {
+    let listening = setup.listening;
+    let (client_room, link_room) = (listening.client_room, listening.link_room);
+    let calls = setup.calls;
+    let wire = match MioWire::listen(net, alloc, listening, calls.callees, calls.spread) {
         Ok(wire) => wire,
         Err(fault) => return Err(stop_for(fault, errors)),
     };
-    let layer = Layer::new(alloc, setup.server, setup.plain);
-    let front = front_of(alloc, layer, setup.programs, setup.asks, manner);
-    let engine = Engine::new(alloc, front, wire, setup.client_room, setup.link_room)?;
+    let layer = Layer::new(alloc, setup.server, calls.plain);
+    let front = front_of(alloc, layer, setup.speech, manner);
+    let engine = Engine::new(alloc, front, wire, client_room, link_room)?;
     Ok(engine)
 }
 
@@ -176,32 +220,40 @@ fn stop_for<E: Write>(fault: ListenFault, errors: &mut E) -> Stop
     }
 }
 
-/// Says `ready`, and takes so many turns.
-fn run_engine<W: Wire, O: Write, E: Write>(
-    engine: &mut Engine<W, Front>,
+/// Takes so many turns, up to the first that is not done: it is the last, and the program fails.
+fn take_turns<T: AllocGlobal + Files, E: Write>(
+    rt: &T,
+    watch: &Watch,
+    engine: &mut Served,
     turns: u64,
-    output: &mut O,
     errors: &mut E,
 ) -> Result<(), Stop>
-    ensures { IsRun W.is_after turns engine.old engine.new (O.contents output.old)
-        (O.contents output.new)
-        (E.contents errors.old) (E.contents errors.new) result }
+    ensures { TakesTurns watch.now.settings.now (engine_view engine.old) turns
+        (engine_view engine.new) (E.contents errors.old) (E.contents errors.new) result }
 {
-    say_ready(output)?;
-    take_turns(engine, turns, errors)
+    let mut looks = Looks::new(Lookout::new(engine.moment()));
+    for _turn in 0..turns {
+        take_turn(rt, watch, engine, &mut looks, errors)?;
+    }
+    Ok(())
 }
 
-/// Takes so many turns, up to the first that is not done: it is the last, and the program fails.
-fn take_turns<W: Wire, E: Write>(
-    engine: &mut Engine<W, Front>,
-    turns: u64,
+/// Takes a turn. Behind it, it looks once a second whether the configuration is to be read again.
+fn take_turn<T: AllocGlobal + Files, E: Write>(
+    rt: &T,
+    watch: &Watch,
+    engine: &mut Served,
+    looks: &mut Looks,
     errors: &mut E,
 ) -> Result<(), Stop>
-    ensures { TakesTurns W.is_after (engine_view engine.old) turns (engine_view engine.new)
+    ensures { TakesTurn watch.now.settings.now (engine_view engine.old) (engine_view engine.new)
         (E.contents errors.old) (E.contents errors.new) result }
 {
-    match engine.run_telling(turns, errors) {
-        Ok(()) => Ok(()),
+    match engine.turn_telling(errors) {
+        Ok(()) => {
+            look_in_time(rt, watch, engine, looks, errors);
+            Ok(())
+        }
         Err(_) => Err(Stop::Failed),
     }
 }

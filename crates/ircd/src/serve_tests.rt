@@ -487,6 +487,30 @@ fn files_and_words_of_serving(rt: HostRuntime) {
     assert!(rt; end_so(&rt));
 }
 
+/// What stands beside the file where it is to be read again.
+const REQUEST: &str = "serve_tests.toml.reload";
+
+const AGAIN: &[u8] = b"ircd: configuration: read again\n";
+
+/// Whether the file is read again, once, and nothing asks for that any more.
+fn is_read_again(rt: &HostRuntime) -> bool {
+    let mut words = Vec::new(rt.alloc());
+    let mut output = Vec::new(rt.alloc());
+    let mut errors = Vec::new(rt.alloc());
+    is_written(rt, &ROWS[1])
+        && fs::write(rt, REQUEST, "").is_ok()
+        && add_words(rt.alloc(), ROWS[1].words, &mut words).is_ok()
+        && run(rt, &words, &mut empty(), &mut output, &mut errors) == 0
+        && output.as_slice() == READY
+        && errors.as_slice() == AGAIN
+        && !fs::exists(rt, REQUEST).unwrap_or(true)
+}
+
+#[test]
+fn a_file_is_read_again(rt: HostRuntime) {
+    assert!(rt; is_read_again(&rt));
+}
+
 /// Whether `ready` arrives: it is flushed behind the write, and nothing else is.
 fn arrives(rt: &HostRuntime) -> bool {
     let mut words = Vec::new(rt.alloc());

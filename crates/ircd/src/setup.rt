@@ -1,10 +1,12 @@
-//! What a configuration sets up: the server, where it listens, and whom it calls.
+//! What a configuration sets up: the server, where it listens, whom it calls, and how clients are
+//! spoken to.
 ghost use Rattle.std.specs.Prelude.{◌≡◌, ◌++◌, ◌∷◌, [], IfOk, OnOk, map, option_map};
 ghost use Rattle.std.specs.Prelude.{option_to_list, string_bytes};
 ghost use Rattle.irc_stage.specs.View.{known_peer};
 ghost use Rattle.irc_turns.specs.Spreads.{name_spread};
-ghost use Rattle.ircd.specs.Serving.{Configures, IsReadSetup, SetsUp, pace_set, peer_set};
-ghost use Rattle.ircd.specs.Serving.{plain_name, plain_names, programs_set};
+ghost use Rattle.ircd.specs.Serving.{AreCallsOf, AreLimitsOf, Configures, IsListeningOf};
+ghost use Rattle.ircd.specs.Serving.{IsReadSettings, IsServerOf, IsSpeechOf, SetsUp, SetsUpPart};
+ghost use Rattle.ircd.specs.Serving.{pace_set, peer_set, plain_name, plain_names, programs_set};
 ghost use Rattle.ircd.specs.Loops.SettingUp.{FindsAddress, FindsAsks, FindsCallee, FindsCallees};
 ghost use Rattle.ircd.specs.Loops.SettingUp.{FindsName, FindsOptional, FindsPassword};
 ghost use Rattle.ircd.specs.Loops.SettingUp.{FindsRanges};
@@ -17,7 +19,7 @@ use irc_names::ServerName;
 use irc_routes::Own;
 use irc_server::{Config, Peer, Server};
 use irc_settings::{PeerSettings, Settings, read_settings};
-use irc_sockets::Callee;
+use irc_sockets::{Callee, Limits, Listening};
 use irc_turns::{LinesPace, name_spread};
 use std::alloc::{AllocError, Global};
 use std::net::SocketAddr;
@@ -27,14 +29,17 @@ use std::net::SocketAddr;
 pub struct Setup {
     /// The server, which nobody is connected to.
     pub server: Server,
-    /// Where it listens for clients.
-    pub clients: SocketAddr,
-    /// Where it listens for servers, if it does.
-    pub links: Option<SocketAddr>,
-    /// From where no client comes in.
-    pub deny: Vec<AddressRange, Global>,
-    /// From where proxies come, who say first for whom.
-    pub proxies: Vec<AddressRange, Global>,
+    /// Where it listens, who comes in there, and how much of each is taken.
+    pub listening: Listening,
+    /// Whom it calls.
+    pub calls: Calls,
+    /// How clients are spoken to.
+    pub speech: Speech,
+}
+
+/// Whom a server calls.
+#[derive(Drop)]
+pub struct Calls {
     /// The servers that it calls, in the order of its peers.
     pub callees: Vec<Callee, Global>,
     /// Those of its peers that know no pieces, and are called without the word for them.
@@ -42,65 +47,102 @@ pub struct Setup {
     /// How many milliseconds more it waits before the first call that it makes again, by its own
     /// name.
     pub spread: u64,
-    /// How many clients may be connected from one address, if there is a limit.
-    pub connections_per_address: Option<u16>,
-    /// For how many seconds who connects for links may stay without naming itself, if there is a
-    /// limit.
-    pub name_within: Option<u16>,
-    /// How many connections for links that have not named themselves may be there from one address,
-    /// if there is a limit.
-    pub links_per_address: Option<u16>,
-    /// For how many seconds a client may stay without becoming a user, if there is a limit.
-    pub register_within: Option<u16>,
-    /// How many lines of a client are taken, if there is a limit.
-    pub pace: Option<LinesPace>,
-    /// What clients are told beside the profile.
+}
+
+/// How clients are spoken to.
+#[derive(Drop)]
+pub struct Speech {
+    /// What they are told beside the profile.
     pub programs: Programs,
     /// The file whose text they are told as the message of the day, if there is one.
     pub motd: Option<String>,
-    /// What clients are asked.
+    /// What they are asked.
     pub asks: Asks,
-    /// How many bytes may wait for a client.
-    pub client_room: usize,
-    /// How many bytes may wait for a link.
-    pub link_room: usize,
 }
 
-/// What a text sets up.
+/// What a text says.
 ///
 /// # Errors
-/// [`Stop::BadConfiguration`] where the text is no configuration, an address or a range in it is
-/// none, or no server is made of it; [`Stop::Failed`] where memory runs out.
-pub fn read_setup(alloc: Global, text: &str) -> Result<Setup, Stop>
-    ensures { IsReadSetup text.now result }
+/// [`Stop::BadConfiguration`] where the text is no configuration; [`Stop::Failed`] where memory
+/// runs out.
+pub fn settings_in(alloc: Global, text: &str) -> Result<Settings, Stop>
+    ensures { IsReadSettings text.now result }
 {
     let settings = read_settings(alloc, text)?;
-    set_up(alloc, &settings)
+    Ok(settings)
 }
 
 /// What settings set up.
-fn set_up(alloc: Global, settings: &Settings) -> Result<Setup, Stop>
+///
+/// # Errors
+/// [`Stop::BadConfiguration`] where an address or a range in them is none, or no server is made of
+/// them; [`Stop::Failed`] where memory runs out.
+pub fn set_up(alloc: Global, settings: &Settings) -> Result<Setup, Stop>
     ensures { SetsUp settings.now result }
 {
     Ok(Setup {
-        callees: callees(alloc, &settings.peers)?,
+        calls: calls_of(alloc, settings)?,
+        listening: listening_of(alloc, settings)?,
+        server: server_of(alloc, settings)?,
+        speech: speech_of(alloc, settings)?,
+    })
+}
+
+/// The server, which nobody is connected to.
+fn server_of(alloc: Global, settings: &Settings) -> Result<Server, Stop>
+    ensures { SetsUpPart (IsServerOf settings.now) settings.now result }
+{
+    let server = Server::new(alloc, config(alloc, settings)?)?;
+    Ok(server)
+}
+
+/// Where it listens, and how many it takes there.
+fn listening_of(alloc: Global, settings: &Settings) -> Result<Listening, Stop>
+    ensures { SetsUpPart (IsListeningOf settings.now) settings.now result }
+{
+    Ok(Listening {
         clients: address(settings.listen.as_str())?,
         links: optional_address(settings.listen_links.as_ref())?,
-        deny: ranges(alloc, &settings.deny)?,
-        proxies: ranges(alloc, &settings.proxies)?,
-        server: Server::new(alloc, config(alloc, settings)?)?,
-        asks: asks(settings)?,
-        plain: plain_names(alloc, &settings.peers)?,
-        spread: own_spread(settings),
-        connections_per_address: settings.connections_per_address,
-        name_within: settings.name_within,
-        links_per_address: settings.links_per_address,
-        register_within: settings.register_within,
-        pace: pace(settings),
-        programs: programs(settings.programs),
-        motd: optional_text(alloc, settings.motd.as_ref())?,
         client_room: settings.client_room,
         link_room: settings.link_room,
+        name_within: settings.name_within,
+        register_within: settings.register_within,
+        limits: limits_of(alloc, settings)?,
+    })
+}
+
+/// Who comes in, and how much of each is taken.
+fn limits_of(alloc: Global, settings: &Settings) -> Result<Limits, Stop>
+    ensures { SetsUpPart (AreLimitsOf settings.now) settings.now result }
+{
+    Ok(Limits {
+        connections_per_address: settings.connections_per_address,
+        links_per_address: settings.links_per_address,
+        pace: pace(settings),
+        deny: ranges(alloc, &settings.deny)?,
+        proxies: ranges(alloc, &settings.proxies)?,
+    })
+}
+
+/// Whom it calls.
+fn calls_of(alloc: Global, settings: &Settings) -> Result<Calls, Stop>
+    ensures { SetsUpPart (AreCallsOf settings.now) settings.now result }
+{
+    Ok(Calls {
+        callees: callees(alloc, &settings.peers)?,
+        plain: plain_names(alloc, &settings.peers)?,
+        spread: own_spread(settings),
+    })
+}
+
+/// How clients are spoken to.
+fn speech_of(alloc: Global, settings: &Settings) -> Result<Speech, Stop>
+    ensures { SetsUpPart (IsSpeechOf settings.now) settings.now result }
+{
+    Ok(Speech {
+        programs: programs(settings.programs),
+        motd: optional_text(alloc, settings.motd.as_ref())?,
+        asks: asks(settings)?,
     })
 }
 

@@ -14,7 +14,8 @@ returns-clause-front c = record {
   inner = c.new-hold.result;
   hold = subst (λ (some : Negotiations). IsNewHold c.args.layer some c.new-hold.result)
       c.negotiations.ensures c.new-hold.ensures;
-  asks_is = subst (λ (doorman : Doorman Inner). IsNewDoorman c.new-hold.result c.args.asks doorman)
+  asks_is =
+      subst (λ (doorman : Doorman Inner). IsNewDoorman c.new-hold.result c.args.speech.asks doorman)
       (sym c.new.ensures.machine) c.new-doorman.ensures;
 }
 

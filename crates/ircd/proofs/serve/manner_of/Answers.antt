@@ -9,13 +9,14 @@ returns-in_err-optional_motd g c =
     manner_unfound c.args.setup.now
     (option_map (λ file. string_bytes file.now) c.as_ref.result) c.from_residual.result
     c.in_err-optional_motd.field-0.0
-    (lent_is c.as_ref.result c.args.setup.now.motd c.as_ref.ensures.value)
+    (lent_is c.as_ref.result c.args.setup.now.speech.motd c.as_ref.ensures.value)
     c.in_err-optional_motd.ensures c.from_residual.ensures.1
 
 pub returns : goal.returns
 returns g c = record {
   programs = refl;
-  motd = subst (λ file. HasMotd file c.args.setup.now.client_room c.in_ok-optional_motd.field-0)
-      (lent_is c.as_ref.result c.args.setup.now.motd c.as_ref.ensures.value)
+  motd = subst
+      (λ file. HasMotd file c.args.setup.now.listening.client_room c.in_ok-optional_motd.field-0)
+      (lent_is c.as_ref.result c.args.setup.now.speech.motd c.as_ref.ensures.value)
       c.in_ok-optional_motd.ensures;
 }
