@@ -1,5 +1,5 @@
 -- What comes of a configuration that is read again.
-use Rattle.std.proofs.Common.{◌≡◌, ℕ, Option, List, [], ◌∷◌, length, refl, sym, subst}
+use Rattle.std.proofs.Common.{◌≡◌, ℕ, Option, List, ◌∷◌, length, refl, sym, subst}
 use Rattle.std.proofs.lemmas.List.{nil_from_length}
 use Rattle.std.specs.Prelude.{⊤}
 use Rattle.irc_sockets.specs.declared.mio_wire.MioWire.{MioWire}
