@@ -1,5 +1,6 @@
 -- What comes of a configuration that is read again.
-use Rattle.std.proofs.Common.{◌≡◌, ℕ, Option, List, [], ◌∷◌, refl, sym, subst}
+use Rattle.std.proofs.Common.{◌≡◌, ℕ, Option, List, ◌∷◌, length, refl, sym, subst}
+use Rattle.std.proofs.lemmas.List.{nil_from_length}
 use Rattle.std.specs.Prelude.{⊤}
 use Rattle.irc_sockets.specs.declared.mio_wire.MioWire.{MioWire}
 use Rattle.irc_sockets.specs.declared.limits.Limits.{Limits}
@@ -52,7 +53,8 @@ leads_on first now rest so_far all held key more then is said leads after others
     (sym is) (then, said, others))
 
 pub leads_none : (first now : Settings) (rest : List FixedKey) (so_far : Option (List ℕ))
-    (all : List FixedKey) (held : Option (List ℕ)) → rest ≡ []
+    (all : List FixedKey) (held : Option (List ℕ)) → length rest ≡ 0
     → Leads first now rest so_far all held → AreRestartsSaid all first now held so_far
 leads_none first now rest so_far all held is leads = leads so_far
-    (subst (λ (keys : List FixedKey). AreRestartsSaid keys first now so_far so_far) (sym is) refl)
+    (subst (λ (keys : List FixedKey). AreRestartsSaid keys first now so_far so_far)
+    (sym (nil_from_length rest is)) refl)

@@ -12,7 +12,6 @@ use Rattle.irc_server.specs.declared.config.ConfigFault.TheVariants.{BadName, Do
 use Rattle.irc_server.specs.Configuring.{IsMade}
 use Rattle.irc_settings.specs.declared.settings.Settings.{Settings}
 use Rattle.irc_settings.specs.declared.settings.PeerSettings.{PeerSettings}
-use Rattle.irc_settings.specs.Configuration.{AreSettingsOf}
 use Rattle.irc_entrance.specs.Ranges.{IsSomeNoRange}
 use Rattle.irc_sockets.specs.declared.calls.Callee.{Callee}
 use Rattle.irc_endings.specs.declared.fault.Stop.{Stop}

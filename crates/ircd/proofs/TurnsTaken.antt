@@ -59,7 +59,7 @@ turn_said old held new after (Ok done) turned =
     turns_tell_some (λ wire calls. ⊤) old held 1 new after
     (told_more 0 old new held after no_told turned)
 turn_said old held new after (Err fault) turned =
-    let one_left : 0 < 1 = arith in
+    let one_left : 0 < 1 = omega arith in
     runs_tell_some (λ wire calls. ⊤) old held 1 new after (Err fault)
     (told_stopped 0 old held fault one_left no_told turned)
 

@@ -1,6 +1,8 @@
+use Rattle.std.proofs.Common.{Ok, refl, sym, subst}
 use Rattle.irc_endings.specs.declared.fault.Stop.TheVariants.{Failed}
+use Rattle.irc_settings.specs.declared.settings.Settings.{Settings}
+use Rattle.irc_settings.specs.Configuration.{AreSettingsOf}
 use Rattle.ircd.specs.Serving.IsCutShort.{unprinted}
-use Rattle.std.proofs.Common.{refl}
 use Rattle.ircd.proofs.Ready.{text_refused, unserved}
 use Rattle.ircd.proofs.serve.serve_text.Goals as goal
 
@@ -16,4 +18,7 @@ returns-in_err-watch g c = unserved c.args.source.now.text.now c.args.turns
     c.from_residual-in_err-watch.ensures.1
 
 pub returns : goal.returns
-returns g c = c.serve_watched.ensures c.args.source.now.text.now c.in_ok-settings.ensures
+returns g c =
+    c.serve_watched.ensures c.args.source.now.text.now
+    (subst (λ (s : Settings). AreSettingsOf c.args.source.now.text.now (Ok s))
+    (sym c.in_ok-watch.ensures) c.in_ok-settings.ensures)
