@@ -11,17 +11,19 @@ use Rattle.irc_names.specs.Tables.{Table, row, each}
 use Rattle.irc_names.specs.TableLaws.{row-each}
 use Rattle.irc_line.specs.Messages.{Written}
 use Rattle.irc_users.specs.declared.user.User.{User}
+use Rattle.irc_users.specs.ChangesTold.{as_introduced, changes_of}
 use Rattle.irc_channels.specs.declared.flags.Flags.{Flags}
 use Rattle.irc_channels.specs.declared.channel.Channel.{Channel}
 use Rattle.irc_modes.specs.declared.modes.ModeChange.{ModeChange}
 use Rattle.irc_modes.specs.Modes.{is_nil}
 use Rattle.irc_modes.specs.ModesSet.{set_changes, ban_changes}
-use Rattle.irc_room.specs.effect.Effect.TheVariants.{AddUser}
+use Rattle.irc_room.specs.effect.Effect.TheVariants.{AddUser, ChangeUser}
 use Rattle.irc_room.specs.Readers.{channel_at}
 use Rattle.irc_room.specs.Room.{Room}
 use Rattle.irc_routes.specs.Known.{Known, servers_told}
 use Rattle.irc_merge.specs.Deeds.{Deed, does, brings, sets, tops}
 use Rattle.irc_merge.specs.Bursts.{burst, side_of, user_deeds, channel_deeds, channel_side}
+use Rattle.irc_merge.specs.Bursts.{own_deeds, change_deeds, people_deeds}
 use Rattle.irc_merge.specs.Bursts.{user_passes, home_passes, stored_member, stored_members}
 use Rattle.irc_merge.specs.Bursts.{settings_line, topic_line, in_lines, members_a_line, bans_a_line}
 use Rattle.irc_merge.specs.Lemmas.TableWords.{values_each, entries_kept}
@@ -31,7 +33,7 @@ use Rattle.irc_burst_lines.specs.BurstLines.{burst_parts, channel_parts, is_near
 use Rattle.irc_burst_lines.specs.Loops.Telling.{row_parts, is_near_user, near_user, near_member}
 use Rattle.irc_burst_lines.specs.Loops.Telling.{near_members, member_lines, settings_lines}
 use Rattle.irc_burst_lines.specs.Loops.Telling.{ban_lines, topic_lines, channel_lines, channel_told}
-use Rattle.irc_burst_lines.specs.Loops.Telling.{told_if}
+use Rattle.irc_burst_lines.specs.Loops.Telling.{told_if, own_lines, change_lines}
 
 module _ (room : Room) (known : Known) (link : ℕ) where
   abbrev passes : List ℕ → Bool
@@ -48,16 +50,17 @@ module _ (room : Room) (known : Known) (link : ℕ) where
 
   -- ---- users
 
-  users_near : (us : List User) → map written (map (λ user. does (AddUser user))
+  users_near : (us : List User) → map written (map (λ user. does (AddUser (as_introduced user)))
       (filter_map (user_passes passes) us)) ≡ map (introduction known)
       (filter (is_near_user known link) us)
   users_near [] = refl
   users_near (user ∷ us) = by_home (passes user.home) (users_near us)
     where
       by_home : (b : Bool)
-          → map written (map (λ user. does (AddUser user)) (filter_map (user_passes passes) us))
+          → map written (map (λ user. does (AddUser (as_introduced user)))
+          (filter_map (user_passes passes) us))
           ≡ map (introduction known) (filter (is_near_user known link) us)
-          → map written (map (λ user. does (AddUser user))
+          → map written (map (λ user. does (AddUser (as_introduced user)))
           (cons_option (if b then Some user else None) (filter_map (user_passes passes) us)))
           ≡ map (introduction known) (cond b (user ∷ filter (is_near_user known link) us)
           (filter (is_near_user known link) us))
@@ -67,8 +70,46 @@ module _ (room : Room) (known : Known) (link : ℕ) where
   users_told : map written (user_deeds (side_of passes room)) ≡ map (introduction known)
       (filter (is_near_user known link) (values users))
   unfolding side_of
-  users_told = ap (λ us. map written (map (λ user. does (AddUser user)) us))
+  users_told = ap (λ us. map written (map (λ user. does (AddUser (as_introduced user))) us))
       (values_each (user_passes passes) users) ∙ users_near (values users)
+
+  -- ---- what they have set
+
+  own_written : (user : User) → map written (own_deeds user) ≡ own_lines room known user
+  own_written user =
+      map-map written (λ change. does (ChangeUser user.nick change)) (changes_of user)
+
+  changes_near : (us : List User)
+      → map written (flat_map own_deeds (filter_map (user_passes passes) us))
+      ≡ change_lines room known link us
+  changes_near [] = refl
+  changes_near (user ∷ us) = by_home (passes user.home) (changes_near us)
+    where
+      by_home : (b : Bool)
+          → map written (flat_map own_deeds (filter_map (user_passes passes) us))
+          ≡ flat_map (own_lines room known) (filter (is_near_user known link) us)
+          → map written (flat_map own_deeds
+          (cons_option (if b then Some user else None) (filter_map (user_passes passes) us)))
+          ≡ flat_map (own_lines room known) (cond b (user ∷ filter (is_near_user known link) us)
+          (filter (is_near_user known link) us))
+      by_home true rest =
+          map-append written (own_deeds user)
+          (flat_map own_deeds (filter_map (user_passes passes) us))
+          ∙ (λ i. own_written user i ++ rest i)
+      by_home false rest = rest
+
+  changes_told : map written (change_deeds (side_of passes room))
+      ≡ change_lines room known link (values users)
+  unfolding side_of
+  changes_told = ap (λ us. map written (flat_map own_deeds us))
+      (values_each (user_passes passes) users) ∙ changes_near (values users)
+
+  people_told : map written (people_deeds (side_of passes room))
+      ≡ map (introduction known) (filter (is_near_user known link) (values users))
+      ++ change_lines room known link (values users)
+  people_told =
+      map-append written (user_deeds (side_of passes room)) (change_deeds (side_of passes room))
+      ∙ (λ i. users_told i ++ changes_told i)
 
   -- ---- the members of a channel
 
@@ -261,12 +302,13 @@ module _ (room : Room) (known : Known) (link : ℕ) where
 
   pub side_told : burst_parts room known link
       ≡ map (row_parts known) (servers_told known link)
-      ++ (map (introduction known) (filter (is_near_user known link) (values users))
+      ++ ((map (introduction known) (filter (is_near_user known link) (values users))
+      ++ change_lines room known link (values users))
       ++ flat_map (channel_told known link users) (values room.channels))
   unfolding burst_parts burst
   side_told =
       let servers = map server_deed (servers_told known link) in
-      let us = user_deeds (side_of passes room) in
+      let us = people_deeds (side_of passes room) in
       let cs = flat_map (channel_deeds known.name (side_of passes room).users)
       (values (side_of passes room).channels) in
       map-append written servers (us ++ cs)
@@ -274,6 +316,6 @@ module _ (room : Room) (known : Known) (link : ℕ) where
       (map-map written server_deed (servers_told known link))
       ∙ ap (λ ls. map (row_parts known) (servers_told known link) ++ ls) (
       map-append written us cs
-      ∙ ap (λ ls. ls ++ map written cs) users_told
-      ∙ ap (λ ls. map (introduction known) (filter (is_near_user known link) (values users))
-      ++ ls) channels_told)
+      ∙ ap (λ ls. ls ++ map written cs) people_told
+      ∙ ap (λ ls. (map (introduction known) (filter (is_near_user known link) (values users))
+      ++ change_lines room known link (values users)) ++ ls) channels_told)

@@ -1,10 +1,11 @@
 -- The burst: what a server writes to a neighbour that is new (RFC 2813 section 5.3.2). The
 -- neighbour has to know a server before what is behind it, a user's server before the user, a
 -- channel's members before what only a channel with members has; so first come the servers that are
--- not behind the link, the nearer first, then their users, and then channel by channel the members,
--- the modes, the bans and the topic.
+-- not behind the link, the nearer first, then their users, what these have set beside what their
+-- introductions tell, and then channel by channel the members, the modes, the bans and the topic.
 --   :a.net SERVER b.net 2 3 :B
 --   NICK al 1 u h 1 + :Al
+--   :al MODE al +a :at lunch
 --   :a.net NJOIN #m :@al
 --   :a.net MODE #m +ntl 5
 --   :a.net MODE #m +bbb a!*@* b!*@* c!*@*

@@ -1,7 +1,8 @@
 -- What a server tells of a small side of the network, line by line.
-use Rattle.std.specs.Prelude.{◌≡◌, ℕ, true, false, Some, None, List, [], ◌∷◌, codes, map}
+use Rattle.std.specs.Prelude.{◌≡◌, ℕ, true, Some, None, List, [], ◌∷◌, codes, map}
 use Rattle.irc_line.specs.Messages.{line_text}
 use Rattle.irc_modes.specs.declared.modes.ModeLetter.TheVariants as letter
+use Rattle.irc_users.specs.UserTable.{new_user}
 use Rattle.irc_room.specs.effect.By.TheVariants as by
 use Rattle.irc_room.specs.effect.Effect.{Effect}
 use Rattle.irc_room.specs.effect.Effect.TheVariants.{AddUser, Join, ChangeModes, SetTopic}
@@ -16,14 +17,8 @@ alone = alone_known (codes "a.net") (says (codes "Test server") (codes "2024-01-
 
 -- al of a.net comes, and makes #m
 abbrev pub al_comes : Effect
-al_comes = AddUser (record {
-  nick = codes "al";
-  user = codes "u";
-  host = codes "h";
-  real = codes "Al";
-  home = codes "a.net";
-  invisible = false;
-})
+al_comes =
+    AddUser (new_user (codes "al") (codes "u") (codes "h") (codes "Al") (codes "a.net"))
 
 abbrev pub al_joins : Effect
 al_joins = Join (codes "al") (codes "#m") true

@@ -1,17 +1,20 @@
 //! The burst: what a server writes to a neighbour that is new (RFC 2813 section 5.3.2).
 //!
 //! The neighbour has to know a server before what is linked to it and before its users, and users
-//! before the channels that they are in. So the order is: the servers that are not behind the link,
-//! the nearer first; their users; channel by channel the members, the modes, the bans and the
-//! topic.
+//! before what they have set and before the channels that they are in. So the order is: the servers
+//! that are not behind the link, the nearer first; their users; what these have set beside what
+//! their introductions tell; channel by channel the members, the modes, the bans and the topic.
 ghost use Rattle.std.specs.Prelude.{◌≡◌, IfOk, OnOk};
 ghost use Rattle.std.specs.Option.{option_copied, option_map};
 ghost use Rattle.irc_line.specs.Messages.{text};
 ghost use Rattle.irc_burst_lines.specs.BurstLines.{burst_parts, channel_parts, is_near};
 ghost use Rattle.irc_burst_lines.specs.Loops.Telling.{
+  change_lines,
   channels_told,
   near_row,
   near_rows,
+  own_lines,
+  own_parts,
   row_parts,
   rows_told,
   server_rows,
@@ -32,12 +35,12 @@ use crate::telling::{put, tell_channel};
 use irc_channels::{Channel, Flags, Stored};
 use irc_line::Text;
 use irc_link_reader::NewMember;
-use irc_link_writer::introduction_line;
+use irc_link_writer::{introduction_line, write_effect};
 use irc_names::ServerName;
-use irc_room::Room;
+use irc_room::{Effect, Room};
 use irc_routes::{Routes, ServerRow};
 use irc_tables::Row;
-use irc_users::User;
+use irc_users::{User, UserChange};
 use std::alloc::{AllocError, Global};
 
 /// The lines that tell a new neighbour of the network on this side: of all that is not behind the
@@ -124,7 +127,8 @@ fn tell_users(
     ensures { OnOk result (Tells (users_told routes.now link room.now.room) lines.old lines.new) }
 {
     let users = room.users()?;
-    tell_each_user(lines, routes, link, users.as_slice())
+    tell_each_user(lines, routes, link, users.as_slice())?;
+    tell_each_change(lines, room, routes, link, users.as_slice())
 }
 
 /// Tells of those of some users that are on this side.
@@ -143,6 +147,53 @@ fn tell_each_user(
         }
     }
     Ok(())
+}
+
+/// Tells what those of some users that are on this side have set.
+fn tell_each_change(
+    lines: &mut Vec<Text, Global>,
+    room: &Room,
+    routes: &Routes,
+    link: u64,
+    users: &[&User],
+) -> Result<(), AllocError>
+    ensures { OnOk result (Tells (change_lines room.now.room routes.now link (users_now users.now))
+        lines.old lines.new) }
+{
+    for user in users {
+        if is_near(routes, link, &user.home) {
+            tell_set(lines, room, routes, link, user)?;
+        }
+    }
+    Ok(())
+}
+
+/// Tells what a user has set beside what the line that introduces it tells.
+fn tell_set(
+    lines: &mut Vec<Text, Global>,
+    room: &Room,
+    routes: &Routes,
+    link: u64,
+    user: &User,
+) -> Result<(), AllocError>
+    ensures { OnOk result
+        (Tells (own_lines room.now.room routes.now user.now) lines.old lines.new) }
+{
+    match &user.set.away {
+        Some(text) => {
+            let away = UserChange::Away(Some(text.copy()));
+            put(lines, own_text(room, routes, link, user, away))
+        }
+        None => Ok(()),
+    }
+}
+
+/// The line of a change of a user's own.
+fn own_text(room: &Room, routes: &Routes, link: u64, user: &User, change: UserChange) -> Text
+    ensures { result.items ≡ text (own_parts room.now.room routes.now user.now change) }
+{
+    let nick = user.nick.copy();
+    write_effect(&Effect::ChangeUser { nick, change }, room, routes, link)
 }
 
 /// Whether a server is on this side: not behind the link.

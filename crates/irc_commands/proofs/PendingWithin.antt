@@ -60,13 +60,17 @@ registering_is_sendable room place pending line message within server words =
             within,
             record {
               now = record {
-                nick = subst (λ (o : Option (List ℕ)). IfSome o IsNick) is within.nick;
-                name = name.clean;
-                name_some = name.some;
-                host = within.host;
-                real_fits = within.real_fits;
-                real_carried = within.real_carried;
-                home = server;
+                within = record {
+                  nick = subst (λ (o : Option (List ℕ)). IfSome o IsNick) is within.nick;
+                  name = name.clean;
+                  name_some = name.some;
+                  host = within.host;
+                  real_fits = within.real_fits;
+                  real_carried = within.real_carried;
+                  home = server;
+                  away = tt;
+                };
+                whole = refl;
               };
               later = tt;
             },

@@ -5,6 +5,7 @@ use Rattle.irc_names.specs.Fold.{key}
 use Rattle.irc_names.specs.Tables.{alter}
 use Rattle.irc_line.specs.Messages.{Parsed}
 use Rattle.irc_users.specs.declared.user.User.{User}
+use Rattle.irc_users.specs.UserTable.{new_user}
 use Rattle.irc_channels.specs.declared.channel.Channel.{Channel}
 use Rattle.irc_modes.specs.Modes.{no_modes}
 use Rattle.irc_numerics.specs.declared.replies.Reply.TheVariants.{NoSuchNick, CannotSendToChan}
@@ -25,14 +26,7 @@ use Rattle.irc_commands.specs.Register.{register, replies}
 
 -- al on a.net, alone
 abbrev pub al : User
-al = record {
-  nick = codes "al";
-  user = codes "u";
-  host = codes "h";
-  real = codes "Al";
-  home = codes "a.net";
-  invisible = false;
-}
+al = new_user (codes "al") (codes "u") (codes "h") (codes "Al") (codes "a.net")
 
 abbrev pub al_alone : Room
 al_alone = record { users = alter (key (codes "al")) (λ _. Some al) empty; channels = empty }
@@ -48,14 +42,7 @@ abbrev pub to_itself : Act
 to_itself = Do (Say (codes "al") false (target.User (codes "al")) (bytes_kept (codes "x")))
 
 abbrev pub bo : User
-bo = record {
-  nick = codes "bo";
-  user = codes "u";
-  host = codes "h";
-  real = codes "Bo";
-  home = codes "a.net";
-  invisible = false;
-}
+bo = new_user (codes "bo") (codes "u") (codes "h") (codes "Bo") (codes "a.net")
 
 -- a channel with mode n, whose only member is al
 abbrev pub als_channel : Channel

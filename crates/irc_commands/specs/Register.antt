@@ -5,6 +5,7 @@ use Rattle.irc_names.specs.Names.{is_nick}
 use Rattle.irc_line.specs.Messages.{Parsed}
 use Rattle.irc_names.specs.UserTexts.{clean_user, cut_real}
 use Rattle.irc_users.specs.declared.user.User.{User}
+use Rattle.irc_users.specs.UserTable.{new_user}
 use Rattle.irc_numerics.specs.declared.replies.Reply.TheVariants.{Welcome, YourHost, Created}
 use Rattle.irc_numerics.specs.declared.replies.Reply.TheVariants.{MyInfo, NoMotd, NoNicknameGiven}
 use Rattle.irc_numerics.specs.declared.replies.Reply.TheVariants.{ErroneousNickname, NicknameInUse}
@@ -43,16 +44,10 @@ abbrev pub replies : Pending → List Act → Registered
 replies pending steps =
     record { pending = pending; steps = steps; registered = false; close = false }
 
--- the user that a connection becomes, at home here and without mode i
+-- the user that a connection becomes, at home here
 abbrev pub user_of : Place → Pending → List ℕ → List ℕ → User
-user_of place pending nickname username = record {
-  nick = nickname;
-  user = username;
-  host = pending.host;
-  real = pending.real;
-  home = place.name;
-  invisible = false;
-}
+user_of place pending nickname username =
+    new_user nickname username pending.host pending.real place.name
 
 -- what a new user is told of the server
 abbrev pub server_told : Place → List Act

@@ -132,14 +132,13 @@ fn complete(
         let refusal = Act::Answer(Reply::NicknameInUse { nick: taken });
         return answered(alloc, without, refusal);
     }
-    let user = User {
-        nick: nick.copy(),
-        user: user.copy(),
-        host: pending.host.copy(),
-        real: pending.real.copy(),
-        home: routes.name().copy(),
-        invisible: false,
-    };
+    let user = User::new(
+        nick.copy(),
+        user.copy(),
+        pending.host.copy(),
+        pending.real.copy(),
+        routes.name().copy(),
+    );
     Ok(Registration {
         pending,
         steps: welcome(alloc, routes, user)?,

@@ -17,7 +17,7 @@ use Rattle.irc_names.specs.Tables.{row}
 use Rattle.irc_names.specs.Lemmas.RuleFacts.{nick-fits, channel-fits, host-fits}
 use Rattle.irc_users.specs.declared.user.User.{User}
 use Rattle.irc_users.specs.declared.user_change.UserChange.{UserChange}
-use Rattle.irc_users.specs.declared.user_change.UserChange.TheVariants.{Invisible}
+use Rattle.irc_users.specs.declared.user_change.UserChange.TheVariants.{Invisible, Away}
 use Rattle.irc_channels.specs.declared.channel.Channel.{Channel}
 use Rattle.irc_effects.specs.declared.effect.By.TheVariants as by
 use Rattle.irc_effects.specs.declared.effect.Target.{Target}
@@ -183,6 +183,7 @@ change_whole room nick (Invisible invisible) within stored =
     (length (if invisible then codes "+i" else codes "-i")) 0
     (nick_in_line (length (stored_nick room nick)) (nick_short room nick within stored))
     (sign_short invisible) (lit≤ tt))
+change_whole room nick (Away text) within stored = tt
 
 -- ---- each effect
 

@@ -7,6 +7,7 @@ use Rattle.irc_names.specs.Fold.{key}
 use Rattle.irc_names.specs.Tables.{row}
 use Rattle.irc_line.specs.Bytes.{crlf}
 use Rattle.irc_users.specs.declared.user.User.{User}
+use Rattle.irc_users.specs.UserTable.{new_user}
 use Rattle.irc_channels.specs.declared.flags.Flags.{Flags}
 use Rattle.irc_modes.specs.declared.modes.Privacy.TheVariants.{Secret}
 use Rattle.irc_modes.specs.declared.modes.ModeChange.{ModeChange}
@@ -33,14 +34,7 @@ room_after effects = fold after no_room effects
 
 -- a user with this nickname, who came from this host to this server
 abbrev pub somebody : List ℕ → List ℕ → List ℕ → User
-somebody nick host home = record {
-  nick = nick;
-  user = codes "u";
-  host = host;
-  real = codes "r";
-  home = home;
-  invisible = false;
-}
+somebody nick host home = new_user nick (codes "u") host (codes "r") home
 
 abbrev pub comes : List ℕ → Effect
 comes nick = AddUser (somebody nick (codes "h") (codes "s.net"))

@@ -6,10 +6,10 @@ use Rattle.std.specs.Option.{IfSome}
 use Rattle.irc_line.specs.Carried.{is_carried, IsCarried}
 use Rattle.irc_names.specs.Names.{IsNick, IsChannel, IsHost, IsServer}
 use Rattle.irc_names.specs.Tables.{row}
-use Rattle.irc_names.specs.UserTexts.{IsUserName, IsRealName}
+use Rattle.irc_names.specs.UserTexts.{IsUserName, IsRealName, IsAway}
 use Rattle.irc_users.specs.declared.user.User.{User}
 use Rattle.irc_users.specs.declared.user_change.UserChange.{UserChange}
-use Rattle.irc_users.specs.declared.user_change.UserChange.TheVariants.{Invisible}
+use Rattle.irc_users.specs.declared.user_change.UserChange.TheVariants.{Invisible, Away}
 use Rattle.irc_channels.specs.Texts.{IsWords}
 use Rattle.irc_modes.specs.ModesSet.{AreWithinLimits}
 use Rattle.irc_modes.specs.declared.modes.ModeChange.{ModeChange}
@@ -36,6 +36,7 @@ pub record IsUserWithin (user : User) : Type 0 where
   pub real_fits : IsRealName user.real
   pub real_carried : IsCarried user.real
   pub home : IsServer user.home
+  pub away : IfSome user.set.away IsAway
 
 -- A channel does so too. The rule of a ban's mask alone takes bytes that no line can carry.
 pub record IsChannelWithin (channel : Channel) : Type 0 where
@@ -54,9 +55,10 @@ abbrev pub IsBanCarried : ModeLetter → Option (List ℕ) → Type 0
 IsBanCarried letter.Ban word = IfSome word IsCarried
 IsBanCarried other word = ⊤
 
--- a change of a user's own: mode i has no limit
+-- a change of a user's own: mode i has no limit, and who is back has no text
 abbrev pub IsChangeWithin : UserChange → Type 0
 IsChangeWithin (Invisible invisible) = ⊤
+IsChangeWithin (Away text) = IfSome text IsAway
 
 -- What an effect has to be so that a room stays within its limits, whoever does it: the names that
 -- it brings keep their rules, and a line can carry the texts that are kept. A change whose

@@ -10,7 +10,7 @@ use Rattle.irc_names.specs.Tables.{row}
 use Rattle.irc_line.specs.Messages.{Sender, Written, named, full, text, middle_text}
 use Rattle.irc_users.specs.declared.user.User.{User}
 use Rattle.irc_users.specs.declared.user_change.UserChange.{UserChange}
-use Rattle.irc_users.specs.declared.user_change.UserChange.TheVariants.{Invisible}
+use Rattle.irc_users.specs.declared.user_change.UserChange.TheVariants.{Invisible, Away}
 use Rattle.irc_users.specs.UserTable.{is_shown}
 use Rattle.irc_modes.specs.declared.modes.ModeChange.{ModeChange}
 use Rattle.irc_channels.specs.declared.channel.Channel.{Channel}
@@ -101,10 +101,11 @@ abbrev pub target_name : Room → Target → List ℕ
 target_name room (target.User nick) = stored_nick room nick
 target_name room (target.Channel channel) = stored_channel room channel
 
--- what a user is told of a change of its own
+-- what a user is told of a change of its own; who is away is told so by a reply
 abbrev pub change_parts : List ℕ → UserChange → Option Sender → Option Written
 change_parts nick (Invisible invisible) sender = parts_of (codes "MODE")
     (nick ∷ (if invisible then codes "+i" else codes "-i") ∷ []) None sender
+change_parts nick (Away text) sender = None
 
 -- the parts of the line that an effect shows to a viewer, and the line
 abbrev pub shown_parts : Room → Effect → User → Option Written

@@ -13,6 +13,7 @@ use Rattle.irc_names.specs.Names.{IsNick, IsChannel}
 use Rattle.irc_names.specs.Tables.{row}
 use Rattle.irc_users.specs.declared.user.User.{User}
 use Rattle.irc_users.specs.declared.user_change.UserChange.{UserChange}
+use Rattle.irc_users.specs.ChangesTold.{as_introduced}
 use Rattle.irc_channels.specs.declared.channel.Channel.{Channel}
 use Rattle.irc_modes.specs.Readable.{AreReadable}
 use Rattle.irc_modes.specs.declared.modes.ModeChange.{ModeChange}
@@ -46,6 +47,12 @@ IsNameFor name (Some channel) = channel.name ≡ name
 -- the name of a channel that is there, as stored, or of one that could be made
 abbrev pub IsChannelOrNew : Room → List ℕ → Type 0
 IsChannelOrNew room name = IsNameFor name (row room.channels (key name))
+
+-- Who comes is told whole by the line that introduces it. What it has set beside that is told by
+-- changes of its own.
+pub record IsSentUser (user : User) : Type 0 where
+  pub within : IsUserWithin user
+  pub whole : as_introduced user ≡ user
 
 pub record IsSentRename (room : Room) (nick new : List ℕ) : Type 0 where
   pub nick_stored : IsStoredNick room nick
@@ -128,7 +135,7 @@ pub record IsSentUserChange (room : Room) (nick : List ℕ) (change : UserChange
   pub keeps : IsChangeWithin change
 
 abbrev pub IsSendable : Room → Effect → Type 0
-IsSendable room (AddUser user) = IsUserWithin user
+IsSendable room (AddUser user) = IsSentUser user
 IsSendable room (Rename nick new) = IsSentRename room nick new
 IsSendable room (Quit nick text) = IsSentQuit room nick text
 IsSendable room (Join nick channel op) = IsSentJoin room nick channel

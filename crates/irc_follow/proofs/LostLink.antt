@@ -57,6 +57,7 @@ module _ (names : List Name) (info : Name → List ℕ) (tree : Tree) (a b : Nam
     rows = rows_now;
     numbered = sound.numbered;
     named = sound.named;
+    told_away = sound.told_away;
     low = sound.low;
     tokens = λ t u x r here linked there link. sound.tokens t u x r here
         (linked_before tree.forest a b t u linked) there link;

@@ -63,6 +63,9 @@ pub record IsItemSetting (s : ItemSetting) : Type 0 where
   pub servers : AreServers s.names (info_in s.settings)
   pub few : length s.names ≤ max_servers
   pub listed : (server : Name) → is_server s.settings server ≡ list_any (same server) s.names
+  -- links tell each of them who is away
+  pub told_away : (server : Name) → IsAmong s.names server
+      → (about_in s.settings server).tells_away ≡ true
 
 pub record SideState : Type 0 where
   pub tree : Tree

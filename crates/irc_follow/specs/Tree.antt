@@ -94,7 +94,7 @@ shape_in names info forest t name = record {
 
 -- Each server of this side keeps a row of each other that is known, and just those; what it keeps
 -- of it is as the links are. Numbers are low. A server's number for one that it tells a neighbour
--- of is the one that the neighbour keeps.
+-- of is the one that the neighbour keeps. Links tell each server who is away.
 pub record IsSoundTree (names : List Name) (info : Name → List ℕ) (tree : Tree) : Type 0 where
   pub forest : IsForest tree.forest
   pub ends : EndsAreAmong names tree.forest
@@ -106,6 +106,7 @@ pub record IsSoundTree (names : List Name) (info : Name → List ℕ) (tree : Tr
       then Some (shape_in names info tree.forest t x) else None)
   pub numbered : (t : Name) → IsAmong names t → IsNumbered (tree.routes t)
   pub named : (t : Name) → IsAmong names t → (tree.routes t).name ≡ t
+  pub told_away : (t : Name) → IsAmong names t → (tree.routes t).about.tells_away ≡ true
   pub low : (t x : Name) (r : ServerRow) → tree.here t ≡ true → row_of (tree.routes t) x ≡ Some r
       → r.ours ≤ max_servers
   pub tokens : (t u x : Name) (r : ServerRow) → tree.here u ≡ true → AreLinked tree.forest t u

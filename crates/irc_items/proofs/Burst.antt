@@ -9,6 +9,7 @@
 pub mod Told
 pub mod Stated
 pub mod ChannelLines
+pub mod ChangeLines
 pub mod Taken
 pub mod Read
 pub mod Written

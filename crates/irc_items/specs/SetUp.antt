@@ -55,10 +55,12 @@ named_at node = option_map (λ (view : View). view.routes.name) node.server
 abbrev pub HasPassword : KnownPeer → Type 0
 HasPassword peer = is_password peer.password ≡ true
 
--- what a server says of itself, and the passwords that it keeps, are such as can be told
+-- what a server says of itself, and the passwords that it keeps, are such as can be told, and links
+-- tell it who is away
 pub record IsConfigured (view : View) : Type 0 where
   pub name : IsServer view.routes.name
   pub about : IsAbout view.routes.about
+  pub told_away : view.routes.about.tells_away ≡ true
   pub passwords : AllByRecursion HasPassword view.peers
 
 -- Each server is there under its name, no two have one name, and they are not too many.

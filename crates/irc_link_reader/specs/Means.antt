@@ -27,6 +27,8 @@
 --                   `:bo MODE #c +o 9d`               BadName: the word of o is no nickname
 --                   `:bo MODE bo +i`                  its own mode; `:bo MODE al +i` is
 --                                                     Parameters
+--                   `:bo MODE bo +a :at lunch`        is away; without a text, or with an empty
+--                                                     one, Parameters
 --   a server's:     `:b.net TOPIC #c :x`              counts where #c is there and has a member
 --                                                     behind this link; else it means nothing:
 --                                                     of a channel that has none b.net has
@@ -47,6 +49,8 @@ use Rattle.irc_names.specs.Limits.{max_real_name}
 use Rattle.irc_names.specs.Names.{fits, is_nick, is_channel, is_host, is_server}
 use Rattle.irc_names.specs.Digits.{number_of}
 use Rattle.irc_users.specs.declared.user_change.UserChange.{UserChange}
+use Rattle.irc_users.specs.declared.user_change.UserChange.TheVariants.{Away}
+use Rattle.irc_users.specs.UserTable.{nothing_set}
 use Rattle.irc_room.specs.effect.By.{By}
 use Rattle.irc_room.specs.effect.By.TheVariants as by
 use Rattle.irc_room.specs.effect.Effect.{Effect}
@@ -169,6 +173,7 @@ introduction_line reader nick distance user host token mode real = record {
     real = real;
     home = unwrap_or (home_of_token reader token) [];
     invisible = bytes_eq mode with_i;
+    set = nothing_set;
   }) ∷ [];
 }
 
@@ -207,11 +212,17 @@ topic_line reader _ _ = malformed
 abbrev pub is_itself_or_none : List ℕ → List ℕ → Bool
 is_itself_or_none nick target = not (is_nick nick && is_nick target) || same nick target
 
+-- a change is told of to a reader: that a user is away, or is back, where links tell it so
+abbrev pub is_told_of : Reader → UserChange → Bool
+is_told_of reader (Away text) = reader.tells_away
+is_told_of reader change = true
+
 -- a MODE of a user, by the change that its words tell of
 abbrev pub change_line : Reader → List ℕ → List ℕ → Option UserChange → Checked
 change_line reader nick target None = malformed
 change_line reader nick target (Some change) =
-    of_user reader nick (is_itself_or_none nick target) (is_nick target) (ChangeUser nick change)
+    of_user reader nick (is_told_of reader change && is_itself_or_none nick target)
+    (is_nick target) (ChangeUser nick change)
 
 abbrev pub user_mode_line : Reader → List ℕ → List ℕ → List (List ℕ) → Checked
 user_mode_line reader nick target words = change_line reader nick target (user_change_of words)

@@ -45,6 +45,8 @@ pub record Reader : Type 0 where
   pub distance : List ℕ → Option ℕ
   -- whether a channel is there, and has a member behind the link
   pub has_far : List ℕ → Bool
+  -- whether links tell it who is away
+  pub tells_away : Bool
 
 -- whether a server is reached by this link
 abbrev pub is_behind_link : Known → ℕ → List ℕ → Bool
@@ -65,6 +67,7 @@ reader_of room known link = record {
   distance = distance_of known;
   has_far =
       λ name. option_map_or (some_behind_link room known link) (row room.channels (key name)) false;
+  tells_away = known.about.tells_away;
 }
 
 -- Whether a line from this name may come by this link. It may not where it is from a server that is

@@ -5,8 +5,8 @@ ghost use Rattle.irc_link_reader.specs.Loops.Readings.{IsNewcomer, IsOwnChange, 
 ghost use Rattle.irc_link_reader.specs.Loops.Readings.{ReadsEffect};
 ghost use Rattle.irc_link_reader.specs.Loops.Readings.{are_right, home_now, home_or_fault};
 ghost use Rattle.irc_link_reader.specs.Loops.Readings.{reader};
-ghost use Rattle.irc_link_reader.specs.Means.{invite_line, is_itself_or_none, nick_line, quit_line};
-ghost use Rattle.irc_link_reader.specs.Means.{say_line};
+ghost use Rattle.irc_link_reader.specs.Means.{invite_line, is_itself_or_none, is_told_of};
+ghost use Rattle.irc_link_reader.specs.Means.{nick_line, quit_line, say_line};
 
 use crate::arrival::{Arrival, expect_from, if_there, is_distance_of, server};
 use irc_batch::CloseReason;
@@ -17,7 +17,7 @@ use irc_link_words::{
 };
 use irc_names::{ServerName, is_nick, same};
 use irc_room::Effect;
-use irc_users::{User, UserChange};
+use irc_users::{User, UserChange, UserSet};
 
 /// A user leaves.
 pub(crate) fn quit_line(
@@ -160,6 +160,7 @@ fn introduction_line(at: Arrival<'_>, params: Params<'_>) -> Result<Option<Effec
         real: real_name(words.real),
         home: home.copy(),
         invisible: is_with_i(words.mode),
+        set: UserSet::fresh(),
     })))
 }
 
@@ -211,13 +212,23 @@ fn change_line(
 ) -> Result<Option<Effect>, CloseReason>
     ensures { IsOwnChange at.entry nick.now target.now (Some change) result }
 {
-    if !is_itself_or_none(nick, target) {
+    if !is_told_of(at, &change) || !is_itself_or_none(nick, target) {
         return Err(CloseReason::Parameters);
     }
     expect_from(at, nick)?;
     let nick = read_nick(nick)?;
     read_nick(target)?;
     Ok(if_there(at, Effect::ChangeUser { nick, change }))
+}
+
+/// Whether a change may be told on links: of who is away, where these tell it.
+fn is_told_of(at: Arrival<'_>, change: &UserChange) -> bool
+    ensures { result ≡ is_told_of (reader at.entry) change.now }
+{
+    match change {
+        UserChange::Away(_) => at.routes.tells_away(),
+        UserChange::Invisible(_) => true,
+    }
 }
 
 /// Whether these are no two nicknames of different users.

@@ -5,3 +5,4 @@ pub mod TextsRead
 pub mod KeptWords
 pub mod WordsTaken
 pub mod NamedRows
+pub mod AwayRead

@@ -27,14 +27,22 @@ use Rattle.irc_room.specs.effect.Target.TheVariants as target
 abbrev pub is_command : List ℕ → List ℕ → Bool
 is_command command word = bytes_eq (map to_ascii_lowercase word) (map to_ascii_lowercase command)
 
--- ---- mode i of a user
+-- ---- modes of a user
 
--- the words of a MODE that set it and take it away
+-- the words of a MODE that set mode i and take it away
 abbrev pub with_i : List ℕ
 with_i = codes "+i"
 
 abbrev pub without_i : List ℕ
 without_i = codes "-i"
+
+-- the words of a MODE that say that a user is away, and that it is back (RFC 2812 sections 3.1.5
+-- and 4.1; on links alone, which is our own choice)
+abbrev pub with_a : List ℕ
+with_a = codes "+a"
+
+abbrev pub without_a : List ℕ
+without_a = codes "-a"
 
 -- what a user comes without mode i with
 abbrev pub no_mode : List ℕ

@@ -11,7 +11,8 @@ ghost use Rattle.irc_names.specs.Names.{fits, is_channel, is_host, is_nick, is_s
 ghost use Rattle.irc_names.specs.UserTexts.{is_user_byte};
 ghost use Rattle.irc_link_words.specs.Words.{are_words, as_text, is_come_mode, is_command};
 ghost use Rattle.irc_link_words.specs.Words.{is_for_channel, is_marked, is_mode_word, is_user_name};
-ghost use Rattle.irc_link_words.specs.Words.{target_or_fault, unmarked, with_i, without_i};
+ghost use Rattle.irc_link_words.specs.Words.{target_or_fault, unmarked, with_a, with_i, without_a};
+ghost use Rattle.irc_link_words.specs.Words.{without_i};
 
 use irc_batch::CloseReason;
 use irc_channels::Words;
@@ -206,6 +207,20 @@ pub(crate) fn is_without_i(word: &[u8]) -> bool
     ensures { result ≡ bytes_eq word.now without_i }
 {
     word == b"-i".as_slice()
+}
+
+/// Whether a word says that a user is away.
+pub(crate) fn is_with_a(word: &[u8]) -> bool
+    ensures { result ≡ bytes_eq word.now with_a }
+{
+    word == b"+a".as_slice()
+}
+
+/// Whether a word says that a user is back.
+pub(crate) fn is_without_a(word: &[u8]) -> bool
+    ensures { result ≡ bytes_eq word.now without_a }
+{
+    word == b"-a".as_slice()
 }
 
 /// Whether a word says which modes a user comes with.

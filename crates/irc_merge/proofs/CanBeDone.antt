@@ -6,8 +6,9 @@ use Rattle.std.specs.Option.{option_map_or}
 use Rattle.irc_names.specs.Fold.{key}
 use Rattle.irc_names.specs.Tables.{row}
 use Rattle.irc_users.specs.declared.user.User.{User}
-use Rattle.irc_room.specs.effect.Effect.TheVariants.{AddUser}
+use Rattle.irc_room.specs.effect.Effect.TheVariants.{AddUser, ChangeUser}
 use Rattle.irc_room.specs.Room.{Room, IsWellFormed}
+use Rattle.irc_room.specs.Effects.{has_user}
 use Rattle.irc_room.specs.After.{titled_by}
 use Rattle.irc_room.specs.InTurn.{EachInTurn}
 use Rattle.irc_merge.specs.Quits.{collision_text}
@@ -16,7 +17,8 @@ use Rattle.irc_merge.specs.Deeds.{is_greater_topic, after_deeds}
 use Rattle.irc_merge.specs.BurstRead.{introduced, new_members, some_far, read_deed, read_all}
 use Rattle.irc_merge.specs.CanBeDone.{DoesSomething, DeedsDo, IsOfBurst, LinesCanBeDone}
 use Rattle.irc_merge.specs.Lemmas.SpelledMembers.{new_titled}
-use Rattle.irc_merge.specs.Lemmas.DoableDeeds.{add_does, quit_does, members_do, some_there}
+use Rattle.irc_merge.specs.Lemmas.DoableDeeds.{add_does, own_does, quit_does, members_do}
+use Rattle.irc_merge.specs.Lemmas.DoableDeeds.{some_there}
 use Rattle.irc_merge.specs.Lemmas.DoableDeeds.{brought_does, changes_do, greater_does, do-append}
 use Rattle.irc_merge.specs.Lemmas.DoableDeeds.{deeds_well}
 
@@ -39,6 +41,13 @@ introduced_does own room user well = by_row (row room.users (key user.nick)) ref
 line_does : (own : List ℕ) (far : List ℕ → Bool) (deed : Deed) (room : Room) → IsOfBurst deed
     → IsWellFormed room → DeedsDo room (read_deed own far room deed)
 line_does own far (does (AddUser user)) room of_burst well = introduced_does own room user well
+line_does own far (does (ChangeUser nick change)) room of_burst well =
+    by_test (has_user room nick) refl
+  where
+    by_test : (b : Bool) → has_user room nick ≡ b
+        → DeedsDo room (cond b (does (ChangeUser nick change) ∷ []) [])
+    by_test true there = (record { now = own_does room nick change there; later = tt }, tt)
+    by_test false none = tt
 line_does own far (brings server channel members) room of_burst well =
     brought_does server channel (new_members far room channel members) room
     (subst (λ news. EachInTurn DoesSomething (titled_by channel room)

@@ -1,3 +1,4 @@
+pub mod ChangesRead
 pub mod UsersRead
 pub mod UsersShown
 pub mod FlagsMerged

@@ -19,7 +19,7 @@ use Rattle.irc_modes.specs.ModesSet.{AreWithinLimits}
 use Rattle.irc_room.specs.Room.{Room, IsWellFormed, IsSoundRow}
 use Rattle.irc_room.specs.After.{alter_channel}
 use Rattle.irc_merge.specs.Deeds.{Deed}
-use Rattle.irc_merge.specs.Bursts.{burst, user_deeds, channel_deeds, home_passes}
+use Rattle.irc_merge.specs.Bursts.{burst, people_deeds, channel_deeds, home_passes}
 use Rattle.irc_merge.specs.Merge.{clash, room_without, either, joined_channel, merge, uninvited}
 use Rattle.irc_merge.specs.Merge.{channel_uninvited}
 use Rattle.irc_merge.specs.Laws.{AreApart, CanBeTold, BurstReadIsMerge}
@@ -252,7 +252,7 @@ module _ (far : List ℕ → Bool) (room other : Room) (well : IsWellFormed room
       → CanBeTold other → reads own far room (burst server other) ≡ merge room other
   unfolding burst merge
   read_gives own server uninvited ours told =
-      let met = reads own far room (user_deeds other) in
+      let met = reads own far room (people_deeds other) in
       let here : met.channels ≡ (room_without room other).channels =
       channels_introduced own far room other well well_other in
       let rise = is_true _ (entries_sorted other.channels) in
@@ -265,7 +265,7 @@ module _ (far : List ℕ → Bool) (room other : Room) (well : IsWellFormed room
       rise)
       met (users_introduced own far room other well well_other) (λ q there. ap (λ t. row t q) here)
       in
-      reads-append own far room (user_deeds other)
+      reads-append own far room (people_deeds other)
       (flat_map (channel_deeds server other.users) (values other.channels))
       ∙ (λ i. record {
         users = read.users i;
@@ -320,7 +320,7 @@ pub uninvited_burst : (server : List ℕ) (room : Room)
     → burst server (uninvited room) ≡ burst server room
 unfolding burst
 uninvited_burst server room =
-    ap (λ ds. user_deeds room ++ ds)
+    ap (λ ds. people_deeds room ++ ds)
     (ap (flat_map (channel_deeds server room.users)) (values_each channel_uninvited room.channels)
     ∙ same_deeds server room.users (values room.channels))
 

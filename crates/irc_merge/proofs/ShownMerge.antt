@@ -23,7 +23,7 @@ use Rattle.irc_room.specs.Room.{Room, IsWellFormed, IsSoundRow}
 use Rattle.irc_room.specs.After.{alter_channel, titled_by}
 use Rattle.irc_merge.specs.Quits.{quits_of, collision_text}
 use Rattle.irc_merge.specs.ShownAlong.{shown_along}
-use Rattle.irc_merge.specs.Bursts.{burst, user_deeds, channel_deeds, home_passes, stored_members}
+use Rattle.irc_merge.specs.Bursts.{burst, people_deeds, channel_deeds, home_passes, stored_members}
 use Rattle.irc_merge.specs.Merge.{clash, room_without, either}
 use Rattle.irc_merge.specs.MergeShown.{arrival, member_arrival, mode_lines, raised_lines}
 use Rattle.irc_merge.specs.MergeShown.{raised_topic, channel_arrivals, arrivals, merge_shown}
@@ -544,7 +544,7 @@ module _ (far : List ℕ → Bool) (room other : Room) (well : IsWellFormed room
   burst_shown own server theirs =
       let rise = is_true _ (entries_sorted other.channels) in
       let told = flat_map (channel_deeds server other.users) (values other.channels) in
-      shown_reads-append viewer own far room (user_deeds other) told
+      shown_reads-append viewer own far room (people_deeds other) told
       ∙ (λ i. kills_shown viewer own far room other well well_other (ap is_some at) i
       ++ shown_reads viewer own far (record {
         users = users_introduced own far room other well well_other i;

@@ -1,15 +1,17 @@
--- Users and channels of a room once all users of another are introduced, one after another.
-use Rattle.std.proofs.Common.{◌≡◌, ℕ, Bool, true, false, cond, Option, Some, None, List, [], ◌∷◌}
-use Rattle.std.proofs.Common.{◌++◌, refl, sym, ◌∙◌, ap, option_to_list}
+-- Users and channels of a room once all users of another are introduced, one after another, and
+-- have changed what they have set.
+use Rattle.std.proofs.Common.{◌≡◌, ℕ, Bool, true, Option, Some, None, List, [], ◌∷◌}
+use Rattle.std.proofs.Common.{◌++◌, refl, sym, ◌∙◌, ap, option_map, option_to_list}
 use Rattle.std.proofs.lemmas.Bool.{and_parts}
 use Rattle.std.specs.List.{AllByRecursion}
-use Rattle.std.specs.FinMap.{entries, entries_sorted, find, is_sorted, get-entries}
-use Rattle.std.specs.FinMap.Entries.{below_all}
+use Rattle.std.specs.FinMap.{entries, entries_sorted, values, is_sorted, get-entries}
 use Rattle.irc_names.specs.Lemmas.PlainFacts.{is_true}
 use Rattle.irc_names.specs.Fold.{key}
 use Rattle.irc_names.specs.Tables.{Table, fold_cmp, row, each, both}
-use Rattle.irc_names.specs.TableLaws.{same_fold, one_fold, same_table}
+use Rattle.irc_names.specs.TableLaws.{same_table}
 use Rattle.irc_users.specs.declared.user.User.{User}
+use Rattle.irc_users.specs.ChangesTold.{as_introduced, changed_by, changes_found, all_changed}
+use Rattle.irc_users.specs.Lemmas.ChangesMeet.{changes_meet_their_users}
 use Rattle.irc_channels.specs.declared.channel.Channel.{Channel}
 use Rattle.irc_channels.specs.Channels.{without_user}
 use Rattle.irc_room.specs.effect.Effect.TheVariants.{AddUser, Quit}
@@ -20,43 +22,15 @@ use Rattle.irc_room.specs.Found.{users_under}
 use Rattle.irc_room.specs.Lemmas.ViewerLaws.{IsNamed, table_named}
 use Rattle.irc_merge.specs.Quits.{quits_of, collision_text}
 use Rattle.irc_merge.specs.Deeds.{does}
-use Rattle.irc_merge.specs.Bursts.{user_deeds}
+use Rattle.irc_merge.specs.Bursts.{user_deeds, change_deeds, people_deeds}
 use Rattle.irc_merge.specs.Merge.{clash, room_without, either}
-use Rattle.irc_merge.specs.Lemmas.TableWords.{absent}
-use Rattle.irc_merge.specs.Lemmas.Reading.{reads, reads-one}
-use Rattle.irc_merge.specs.Lemmas.Introducing.{met_by, met, is_met, told_user, users_met, met_well}
+use Rattle.irc_merge.specs.Lemmas.Reading.{reads, reads-one, reads-append}
+use Rattle.irc_merge.specs.Lemmas.Introducing.{met_by, met, is_met, told_user, met_well}
 use Rattle.irc_merge.specs.Lemmas.Introducing.{introductions, under_same, other_met, both_users}
 use Rattle.irc_merge.specs.Lemmas.Introducing.{holders}
-
-told_once : (x : Option User) → told_user x None ≡ x
-told_once None = refl
-told_once (Some holder) = refl
-
-pub users_read : (own : List ℕ) (far : List ℕ → Bool) (es : List (List ℕ × User))
-    → is_sorted fold_cmp es ≡ true → AllByRecursion IsNamed es → (room : Room)
-    → IsWellFormed room → (q : List ℕ) → row (reads own far room (introductions es)).users q
-    ≡ told_user (row room.users q) (find fold_cmp q es)
-users_read own far [] rise named room well q = sym (told_once (row room.users q))
-users_read own far (e ∷ es) rise named room well q =
-    let parts = and_parts _ _ rise in
-    ap (λ (r : Room). row r.users q)
-    (reads-one own far room (does (AddUser e.1)) (introductions es))
-    ∙ ap (λ (r : Room). row (reads own far r (introductions es)).users q) (is_met own room e.1)
-    ∙ users_read own far es parts.1 named.1 (met room e.1) (met_well room e.1 well) q
-    ∙ ap (λ o. told_user o (find fold_cmp q es))
-    (users_met room e.1 well q ∙ ap (λ f. cond (same_fold q f)
-    (told_user (row room.users f) (Some e.1)) (row room.users q)) named.0)
-    ∙ by_fold (same_fold q e.0) refl parts.0
-  where
-    by_fold : (b : Bool) → same_fold q e.0 ≡ b → below_all fold_cmp e.0 es ≡ true → told_user
-        (cond b (told_user (row room.users e.0) (Some e.1)) (row room.users q)) (find fold_cmp q es)
-        ≡ told_user (row room.users q) (cond b (Some e.1) (find fold_cmp q es))
-    by_fold true one below =
-        ap (told_user (told_user (row room.users e.0) (Some e.1)))
-        (ap (λ f. find fold_cmp f es) (one_fold q e.0 one) ∙ absent e.0 es below)
-        ∙ told_once (told_user (row room.users e.0) (Some e.1))
-        ∙ ap (λ f. told_user (row room.users f) (Some e.1)) (sym (one_fold q e.0 one))
-    by_fold false two below = refl
+use Rattle.irc_merge.specs.Lemmas.BareUsers.{bare, bare_deeds, bare_sorted, bare_named}
+use Rattle.irc_merge.specs.Lemmas.BareUsers.{bare_under, introduced_row}
+use Rattle.irc_merge.proofs.ChangesRead.{changes_read, whole_again}
 
 -- ---- their channels
 
@@ -99,25 +73,59 @@ channels_read own far (e ∷ es) rise named room well =
     ∙ ap (λ f. quit_all
     (option_to_list (row room.users f) ++ users_under room.users es) room.channels) named.0
 
--- ---- the room once all users of another are introduced
+-- ---- the room once all users of another are introduced, and have changed
+
+-- the room after the introductions
+abbrev met_all : List ℕ → (List ℕ → Bool) → Room → Room → Room
+met_all own far room other = reads own far room (introductions (bare (entries other.users)))
+
+people_read : (own : List ℕ) (far : List ℕ → Bool) (room other : Room)
+    → reads own far room (people_deeds other)
+    ≡ record (met_all own far room other) {
+      users = all_changed (values other.users) (met_all own far room other).users;
+    }
+people_read own far room other =
+    reads-append own far room (user_deeds other) (change_deeds other)
+    ∙ ap (λ deeds. reads own far (reads own far room deeds) (change_deeds other))
+    (bare_deeds (entries other.users))
+    ∙ changes_read own far (values other.users) (met_all own far room other)
+
+rising : (other : Room) → is_sorted fold_cmp (bare (entries other.users)) ≡ true
+rising other =
+    bare_sorted (entries other.users) ∙ is_true _ (entries_sorted other.users)
+
+met_row : (own : List ℕ) (far : List ℕ → Bool) (room other : Room) → IsWellFormed room
+    → IsWellFormed other → (q : List ℕ) → row (met_all own far room other).users q
+    ≡ told_user (row room.users q) (option_map as_introduced (row other.users q))
+met_row own far room other well well_other q =
+    ap (λ deeds. row (reads own far room deeds).users q) (sym (bare_deeds (entries other.users)))
+    ∙ introduced_row own far room other well well_other q
 
 pub users_introduced : (own : List ℕ) (far : List ℕ → Bool) (room other : Room)
-    → IsWellFormed room → IsWellFormed other → (reads own far room (user_deeds other)).users
+    → IsWellFormed room → IsWellFormed other → (reads own far room (people_deeds other)).users
     ≡ both either (room_without room other).users (room_without other room).users
 users_introduced own far room other well well_other =
-    same_table (reads own far room (user_deeds other)).users
+    same_table (reads own far room (people_deeds other)).users
     (both either (room_without room other).users (room_without other room).users) (λ q.
-    users_read own far (entries other.users) (is_true _ (entries_sorted other.users))
-    (table_named other.users well_other.users_named) room well q
-    ∙ ap (told_user (row room.users q)) (sym (get-entries other.users q))
+    ap (λ (r : Room). row r.users q) (people_read own far room other)
+    ∙ changes_meet_their_users (entries other.users) (is_true _ (entries_sorted other.users))
+    (table_named other.users well_other.users_named) (met_all own far room other).users q
+    ∙ ap (λ o. option_map (changed_by (changes_found o)) (row (met_all own far room other).users q))
+    (sym (get-entries other.users q))
+    ∙ ap (option_map (changed_by (changes_found (row other.users q))))
+    (met_row own far room other well well_other q)
+    ∙ whole_again (row room.users q) (row other.users q)
     ∙ sym (both_users room other well well_other q))
 
 pub channels_introduced : (own : List ℕ) (far : List ℕ → Bool) (room other : Room)
     → IsWellFormed room → IsWellFormed other
-    → (reads own far room (user_deeds other)).channels ≡ (room_without room other).channels
+    → (reads own far room (people_deeds other)).channels ≡ (room_without room other).channels
 unfolding room_without
 channels_introduced own far room other well well_other =
-    channels_read own far (entries other.users) (is_true _ (entries_sorted other.users))
-    (table_named other.users well_other.users_named) room well
-    ∙ ap (λ us. quit_all us room.channels) (holders room other well)
+    ap (λ (r : Room). r.channels) (people_read own far room other)
+    ∙ channels_read own far (bare (entries other.users)) (rising other)
+    (bare_named (entries other.users) (table_named other.users well_other.users_named))
+    room well
+    ∙ ap (λ us. quit_all us room.channels)
+    (bare_under room.users (entries other.users) ∙ holders room other well)
     ∙ sym (quit_all_is room collision_text (clash room other))

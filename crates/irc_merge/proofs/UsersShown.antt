@@ -6,7 +6,7 @@ use Rattle.std.proofs.lemmas.Bool.{and_parts}
 use Rattle.std.proofs.lemmas.List.{append-nil}
 use Rattle.std.specs.List.{AllByRecursion}
 use Rattle.std.specs.Option.{option_and_then, option_map_or}
-use Rattle.std.specs.FinMap.{entries, entries_sorted, find, is_sorted}
+use Rattle.std.specs.FinMap.{entries, entries_sorted, values, find, is_sorted}
 use Rattle.std.specs.FinMap.Entries.{below_all}
 use Rattle.std.proofs.Math.Bool.{false≢true}
 use Rattle.irc_names.specs.Lemmas.PlainFacts.{is_true}
@@ -24,13 +24,17 @@ use Rattle.irc_room.specs.Viewers.{shows_to, line_for}
 use Rattle.irc_merge.specs.ShownAlong.{shown_along}
 use Rattle.irc_merge.specs.Quits.{quits_of, collision_text}
 use Rattle.irc_merge.specs.Deeds.{does, kills, shown_by, shown_by_all}
-use Rattle.irc_merge.specs.Bursts.{user_deeds}
+use Rattle.irc_merge.specs.Bursts.{user_deeds, change_deeds, people_deeds}
 use Rattle.irc_merge.specs.Merge.{clash}
 use Rattle.irc_merge.specs.Lemmas.TableWords.{absent}
+use Rattle.irc_merge.specs.Lemmas.Reading.{reads}
 use Rattle.irc_merge.specs.Lemmas.ShownReading.{shown_one, shown_reads, shown_reads-one}
+use Rattle.irc_merge.specs.Lemmas.ShownReading.{shown_reads-append}
 use Rattle.irc_merge.specs.Lemmas.Introducing.{met, met_by, is_met, met_well, introductions}
 use Rattle.irc_merge.specs.Lemmas.Introducing.{under_same, above_apart, other_met, holders}
 use Rattle.irc_merge.specs.Lemmas.ShownUsers.{quit_to, quit_shows}
+use Rattle.irc_merge.specs.Lemmas.BareUsers.{bare, bare_deeds, bare_sorted, bare_named, bare_under}
+use Rattle.irc_merge.proofs.ChangesRead.{changes_unseen}
 
 -- two rooms that differ by the user of one fold alone
 record AreBeside (fold : List ℕ) (one other : Room) : Type 0 where
@@ -189,9 +193,22 @@ users_show viewer own far (e ∷ es) rise named room well there =
 -- one of this side is shown just the quits of those who clash
 pub kills_shown : (viewer own : List ℕ) (far : List ℕ → Bool) (room other : Room)
     → IsWellFormed room → IsWellFormed other → is_some (row room.users (key viewer)) ≡ true
-    → shown_reads viewer own far room (user_deeds other) ≡ shown_along viewer room
+    → shown_reads viewer own far room (people_deeds other) ≡ shown_along viewer room
     (quits_of collision_text (clash room other))
 kills_shown viewer own far room other well well_other there =
-    users_show viewer own far (entries other.users) (is_true _ (entries_sorted other.users))
-    (table_named other.users well_other.users_named) room well (λ known. there)
-    ∙ ap (λ us. shown_along viewer room (quits_of collision_text us)) (holders room other well)
+    shown_reads-append viewer own far room (user_deeds other) (change_deeds other)
+    ∙ (λ i. introductions_show i
+    ++ changes_unseen viewer own far (values other.users)
+    (reads own far room (user_deeds other)) i)
+    ∙ append-nil (shown_along viewer room (quits_of collision_text (clash room other)))
+  where
+    introductions_show : shown_reads viewer own far room (user_deeds other)
+        ≡ shown_along viewer room (quits_of collision_text (clash room other))
+    introductions_show =
+        ap (shown_reads viewer own far room) (bare_deeds (entries other.users))
+        ∙ users_show viewer own far (bare (entries other.users))
+        (bare_sorted (entries other.users) ∙ is_true _ (entries_sorted other.users))
+        (bare_named (entries other.users) (table_named other.users well_other.users_named))
+        room well (λ known. there)
+        ∙ ap (λ us. shown_along viewer room (quits_of collision_text us))
+        (bare_under room.users (entries other.users) ∙ holders room other well)

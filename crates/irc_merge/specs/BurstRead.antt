@@ -8,11 +8,12 @@ use Rattle.std.specs.FinMap.{keys}
 use Rattle.irc_names.specs.Fold.{key}
 use Rattle.irc_names.specs.Tables.{row}
 use Rattle.irc_users.specs.declared.user.User.{User}
+use Rattle.irc_users.specs.declared.user_change.UserChange.{UserChange}
 use Rattle.irc_channels.specs.declared.flags.Flags.{Flags}
 use Rattle.irc_channels.specs.declared.channel.Channel.{Channel}
-use Rattle.irc_room.specs.effect.Effect.TheVariants.{AddUser}
+use Rattle.irc_room.specs.effect.Effect.TheVariants.{AddUser, ChangeUser}
 use Rattle.irc_room.specs.Room.{Room}
-use Rattle.irc_room.specs.Effects.{is_member}
+use Rattle.irc_room.specs.Effects.{has_user, is_member}
 use Rattle.irc_room.specs.InTurn.{after_all}
 use Rattle.irc_merge.specs.Deeds.{Deed, does, kills, brings, sets, tops, member_comes, after_deeds}
 use Rattle.irc_merge.specs.Bursts.{home_passes}
@@ -22,6 +23,11 @@ use Rattle.irc_merge.specs.Bursts.{home_passes}
 abbrev pub introduced : List ℕ → Room → User → List Deed
 introduced own room user = option_map_or (λ (holder : User). kills own holder.nick ∷ [])
     (row room.users (key user.nick)) (does (AddUser user) ∷ [])
+
+-- A user changes what it has set, where it is there: one whose nickname was on both sides is not.
+abbrev pub changed : Room → List ℕ → UserChange → List Deed
+changed room nick change =
+    if has_user room nick then does (ChangeUser nick change) ∷ [] else []
 
 -- whether one of whom NJOIN tells becomes a member: a user behind the link who is none yet
 abbrev pub is_new_member : (List ℕ → Bool) → Room → List ℕ → List ℕ × Flags → Bool
@@ -52,6 +58,7 @@ some_far far room channel =
 -- link
 abbrev pub read_deed : List ℕ → (List ℕ → Bool) → Room → Deed → List Deed
 read_deed own far room (does (AddUser user)) = introduced own room user
+read_deed own far room (does (ChangeUser nick change)) = changed room nick change
 read_deed own far room (brings server channel members) =
     brought server channel (new_members far room channel members)
 read_deed own far room (sets server channel changes) =

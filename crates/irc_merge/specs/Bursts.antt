@@ -9,12 +9,13 @@ use Rattle.std.specs.Simd.{first_chunks}
 use Rattle.std.specs.FinMap.{entries, values, retain_keys}
 use Rattle.irc_names.specs.Tables.{Table, row, each}
 use Rattle.irc_users.specs.declared.user.User.{User}
+use Rattle.irc_users.specs.ChangesTold.{as_introduced, changes_of}
 use Rattle.irc_channels.specs.declared.flags.Flags.{Flags}
 use Rattle.irc_modes.specs.declared.modes.ModeChange.{ModeChange}
 use Rattle.irc_channels.specs.declared.channel.Channel.{Channel}
 use Rattle.irc_modes.specs.Modes.{is_nil}
 use Rattle.irc_channels.specs.Channels.{while_members}
-use Rattle.irc_room.specs.effect.Effect.TheVariants.{AddUser}
+use Rattle.irc_room.specs.effect.Effect.TheVariants.{AddUser, ChangeUser}
 use Rattle.irc_room.specs.Room.{Room}
 use Rattle.irc_merge.specs.Deeds.{Deed, does, brings, sets, tops}
 use Rattle.irc_modes.specs.ModesSet.{set_changes, ban_changes}
@@ -30,9 +31,19 @@ members_a_line = 10
 abbrev pub bans_a_line : ℕ
 bans_a_line = 3
 
--- each user is introduced, in folded order
+-- each user is introduced, in folded order, with what the line that introduces it tells
 abbrev pub user_deeds : Room → List Deed
-user_deeds room = map (λ user. does (AddUser user)) (values room.users)
+user_deeds room = map (λ user. does (AddUser (as_introduced user))) (values room.users)
+
+-- then, in the same order, each changes what it has set beside that
+abbrev pub own_deeds : User → List Deed
+own_deeds user = map (λ change. does (ChangeUser user.nick change)) (changes_of user)
+
+abbrev pub change_deeds : Room → List Deed
+change_deeds room = flat_map own_deeds (values room.users)
+
+abbrev pub people_deeds : Room → List Deed
+people_deeds room = user_deeds room ++ change_deeds room
 
 -- the members of a channel in folded order, each with its nickname as it is stored
 abbrev pub stored_member : Table User → List ℕ × Flags → Option (List ℕ × Flags)
@@ -63,7 +74,7 @@ channel_deeds server users channel =
 -- folded order
 unfoldable pub burst : List ℕ → Room → List Deed
 burst server room =
-    user_deeds room ++ flat_map (channel_deeds server room.users) (values room.channels)
+    people_deeds room ++ flat_map (channel_deeds server room.users) (values room.channels)
 
 -- whether the home of the user under a fold passes a test
 abbrev pub home_passes : (List ℕ → Bool) → Table User → List ℕ → Bool

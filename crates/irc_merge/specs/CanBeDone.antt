@@ -3,7 +3,7 @@
 use Rattle.std.specs.Prelude.{◌≡◌, ℕ, Bool, false, ⊤, List, [], ◌∷◌}
 use Rattle.std.specs.List.{AllByRecursion}
 use Rattle.irc_room.specs.effect.Effect.{Effect}
-use Rattle.irc_room.specs.effect.Effect.TheVariants.{AddUser}
+use Rattle.irc_room.specs.effect.Effect.TheVariants.{AddUser, ChangeUser}
 use Rattle.irc_room.specs.Room.{Room, IsWellFormed}
 use Rattle.irc_room.specs.Effects.{is_idle, IsPossible}
 use Rattle.irc_room.specs.InTurn.{EachInTurn}
@@ -25,6 +25,7 @@ DeedsDo room (deed ∷ deeds) =
 -- the lines of a burst
 abbrev pub IsOfBurst : Deed → Type 0
 IsOfBurst (does (AddUser user)) = ⊤
+IsOfBurst (does (ChangeUser nick change)) = ⊤
 IsOfBurst (brings server channel members) = ⊤
 IsOfBurst (sets server channel changes) = ⊤
 IsOfBurst (tops server channel topic) = ⊤

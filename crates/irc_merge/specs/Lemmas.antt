@@ -1,6 +1,7 @@
 -- Lemmas, with their proofs, that the crates above cite too. No rule stands here.
 pub mod Clashing
 pub mod Introducing
+pub mod BareUsers
 pub mod Joining
 pub mod ListedMerge
 pub mod Quitting

@@ -33,7 +33,8 @@ max_user_name = 10
 abbrev pub max_real_name : ℕ
 max_real_name = 50
 
--- the longest topic, and the longest text of a quit, a part or a kick; our own choice
+-- the longest topic, and the longest text of a quit, a part, a kick or of who is away; our own
+-- choice
 abbrev pub max_words : ℕ
 max_words = 160
 

@@ -1,9 +1,10 @@
--- What a user says of itself (RFC 2812 section 3.1.3).
-use Rattle.std.specs.Prelude.{ℕ, Bool, ◌||◌, ◌≤◌, List, length, take, map, codes, nat_eq}
-use Rattle.std.specs.Prelude.{if◌then◌else◌, IsTrue}
+-- What a user says of itself (RFC 2812 sections 3.1.3 and 4.1).
+use Rattle.std.specs.Prelude.{ℕ, Bool, false, not, ◌&&◌, ◌||◌, ◌≤◌, List, [], ◌∷◌, length, take}
+use Rattle.std.specs.Prelude.{map, codes, nat_eq, if◌then◌else◌, IsTrue}
 use Rattle.std.specs.List.{list_any, list_all}
 use Rattle.std.specs.Char.{is_ascii_alphanumeric}
-use Rattle.irc_names.specs.Limits.{max_user_name, max_real_name}
+use Rattle.irc_names.specs.Limits.{max_user_name, max_real_name, max_words}
+use Rattle.irc_names.specs.Names.{is_one_of, fits}
 
 -- what may stand in a user name (our own choice)
 abbrev pub is_user_byte : ℕ → Bool
@@ -27,3 +28,16 @@ pub record IsUserName (bytes : List ℕ) : Type 0 where
 
 abbrev pub IsRealName : List ℕ → Type 0
 IsRealName bytes = length bytes ≤ max_real_name
+
+-- NUL, CR and LF are in no text (RFC 2812 section 2.3.1)
+abbrev pub is_away_byte : ℕ → Bool
+is_away_byte byte = not (is_one_of (0x00 ∷ 0x0D ∷ 0x0A ∷ []) byte)
+
+-- whether bytes may be what is told of a user who is away: at least one, since a user without a
+-- text is back (RFC 2812 section 4.1), and no more than a quit's
+unfoldable pub is_away : List ℕ → Bool
+is_away [] = false
+is_away (first ∷ rest) = list_all is_away_byte (first ∷ rest) && fits max_words (first ∷ rest)
+
+abbrev pub IsAway : List ℕ → Type 0
+IsAway bytes = IsTrue (is_away bytes)

@@ -1,24 +1,17 @@
 //! Names of channels.
-ghost use Rattle.std.specs.Prelude.{◌≡◌, ◌≤◌, length, ⊤, refl};
+ghost use Rattle.std.specs.Prelude.{◌≡◌, ◌≤◌, length, ⊤};
 ghost use Rattle.std.specs.Option.{SomeIff};
-ghost use Rattle.std.specs.Ordering.{as_partial_cmp};
-ghost use Rattle.std.specs.Cmp.{partial_equiv_from_equiv, po};
 ghost use Rattle.irc_names.specs.Names.{IsChannel};
-ghost use Rattle.irc_names.specs.Fold.{same, name_cmp};
-ghost use Rattle.irc_names.specs.FoldLaws.{same-equivalence, name_cmp-total, same-ties, folds_fed};
-ghost use Rattle.irc_names.specs.FoldLaws.{same-fed};
 
-use crate::{MAX_CHANNEL, compare, copied, hash_folds, is_channel, same};
-use arrayvec::ArrayVec;
+use crate::name_bytes::NameBytes;
+use crate::{MAX_CHANNEL, is_channel};
 use std::alloc::AllocError;
-use std::cmp::Ordering;
-use std::hash::{Hash, Hasher};
 use std::marker::Model;
 
 /// The name of a channel: at most [`MAX_CHANNEL`] bytes that [`is_channel`] takes, as spelled. Two
 /// are equal where their folds are, and stand in the order of their folds.
-#[derive(Drop)]
-pub struct ChannelName(ArrayVec<u8, MAX_CHANNEL>);
+#[derive(Drop, Eq, Hash, Ord, PartialEq, PartialOrd)]
+pub struct ChannelName(NameBytes<MAX_CHANNEL>);
 
 /// In a clause it is the list of its bytes, of which its rule holds always.
 impl Model for ChannelName {
@@ -27,11 +20,11 @@ impl Model for ChannelName {
 
     ghost Value = { List ℕ };
 
-    ghost view = { λ channel. channel.0.items };
+    ghost view = { λ channel. channel.0 };
 
-    ghost invariant = { λ channel. IsChannel channel.0.items };
+    ghost invariant = { λ channel. IsChannel channel.0 };
 
-    ghost inverse = { λ bytes. record { 0 = record { items = bytes } } };
+    ghost inverse = { λ bytes. record { 0 = bytes } };
 }
 
 impl ChannelName {
@@ -41,7 +34,7 @@ impl ChannelName {
         ensures { SomeIff result (IsChannel bytes.now) bytes.now }
     {
         if is_channel(bytes) {
-            Some(ChannelName(copied(bytes)))
+            Some(ChannelName(NameBytes::of(bytes)))
         } else {
             None
         }
@@ -53,14 +46,14 @@ impl ChannelName {
         ensures rule { IsChannel self.now }
         ensures fits { length result.now ≤ MAX_CHANNEL }
     {
-        self.0.as_slice()
+        self.0.as_bytes()
     }
 
     /// The same channel's name once more. It takes no memory and cannot fail.
     pub fn copy(&self) -> Self
         ensures { result ≡ self.now }
     {
-        ChannelName(copied(self.as_bytes()))
+        ChannelName(NameBytes::of(self.as_bytes()))
     }
 }
 
@@ -71,53 +64,5 @@ impl Clone for ChannelName {
 
     fn clone(&self) -> Result<Self, AllocError> {
         Ok(self.copy())
-    }
-}
-
-impl PartialEq for ChannelName {
-    ghost eq = { same };
-
-    ghost laws = { partial_equiv_from_equiv same-equivalence };
-
-    fn eq(&self, other: &Self) -> bool {
-        same(self.as_bytes(), other.as_bytes())
-    }
-}
-
-impl Eq for ChannelName {
-    ghost laws = { same-equivalence };
-}
-
-impl PartialOrd for ChannelName {
-    ghost partial_cmp = { as_partial_cmp name_cmp };
-
-    ghost laws = { po name_cmp-total same-ties };
-
-    fn partial_cmp(&self, other: &Self) -> Option<Ordering> {
-        Some(self.cmp(other))
-    }
-}
-
-impl Ord for ChannelName {
-    ghost cmp = { name_cmp };
-
-    ghost total = { name_cmp-total };
-
-    ghost matches_partial_cmp = { λ _ _. refl };
-
-    ghost matches_eq = { same-ties };
-
-    fn cmp(&self, other: &Self) -> Ordering {
-        compare(self.as_bytes(), other.as_bytes())
-    }
-}
-
-impl Hash for ChannelName {
-    ghost hash_input = { folds_fed };
-
-    ghost respects_eq = { same-fed };
-
-    fn hash<H: Hasher>(&self, state: &mut H) {
-        hash_folds(self.as_bytes(), state);
     }
 }

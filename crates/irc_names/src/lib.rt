@@ -2,6 +2,7 @@
 //! what each kind is, masks, how long each may be; and the digits of a number.
 #![tactic(auto)]
 
+mod away_text;
 mod ban_mask;
 mod case_fold;
 mod channel_name;
@@ -13,12 +14,14 @@ mod host;
 mod key;
 pub mod laws;
 mod matching;
+mod name_bytes;
 mod nick;
 mod real_name;
 mod rules;
 mod server_name;
 mod user_name;
 
+pub use away_text::AwayText;
 pub use ban_mask::BanMask;
 pub use case_fold::{compare, fold, same};
 pub use channel_name::ChannelName;
@@ -31,7 +34,9 @@ pub use key::Key;
 pub use matching::mask_matches;
 pub use nick::Nick;
 pub use real_name::RealName;
-pub use rules::{is_ban_mask, is_channel, is_host, is_key, is_nick, is_server, is_user_byte};
+pub use rules::{
+    is_away, is_ban_mask, is_channel, is_host, is_key, is_nick, is_server, is_user_byte,
+};
 pub use server_name::ServerName;
 pub use user_name::UserName;
 
@@ -62,7 +67,8 @@ pub const MAX_USER_NAME: usize = 10;
 /// The longest real name (our own choice).
 pub const MAX_REAL_NAME: usize = 50;
 
-/// The longest topic, and the longest text of a quit, a part or a kick (our own choice).
+/// The longest topic, and the longest text of a quit, a part, a kick or of who is away (our own
+/// choice).
 pub const MAX_WORDS: usize = 160;
 
 /// The longest text in which a server describes itself (our own choice).

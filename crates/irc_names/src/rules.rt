@@ -1,13 +1,13 @@
 //! What is a name of each kind (RFC 2812, section 2.3.1, and our own choices).
 ghost use Rattle.std.specs.Prelude.{◌≡◌};
 ghost use Rattle.std.specs.List.{list_all};
-ghost use Rattle.irc_names.specs.UserTexts.{is_user_byte};
+ghost use Rattle.irc_names.specs.UserTexts.{is_away, is_away_byte, is_user_byte};
 ghost use Rattle.irc_names.specs.Names.{starts_without_colon, is_special, is_nick_byte, is_nick};
 ghost use Rattle.irc_names.specs.Names.{is_channel_byte, is_channel, is_host_byte, is_host};
 ghost use Rattle.irc_names.specs.Names.{is_server_byte, is_server, is_key_byte, is_key};
 ghost use Rattle.irc_names.specs.Names.{is_ban_mask_byte, is_ban_mask};
 
-use crate::{MAX_BAN_MASK, MAX_CHANNEL, MAX_HOST, MAX_KEY, MAX_NICK, MAX_SERVER};
+use crate::{MAX_BAN_MASK, MAX_CHANNEL, MAX_HOST, MAX_KEY, MAX_NICK, MAX_SERVER, MAX_WORDS};
 
 /// One of the bytes that a nickname may have beside letters, digits and `-`.
 fn is_special(byte: u8) -> bool
@@ -177,4 +177,29 @@ pub fn is_user_byte(byte: u8) -> bool
     ensures { result ≡ is_user_byte byte }
 {
     byte.is_ascii_alphanumeric() || matches!(byte, b'-' | b'.' | b'_' | b'~')
+}
+
+/// A byte that what is told of a user who is away may have.
+fn is_away_byte(byte: u8) -> bool
+    ensures { result ≡ is_away_byte byte }
+{
+    !matches!(byte, 0 | b'\r' | b'\n')
+}
+
+fn are_away_bytes(bytes: &[u8]) -> bool
+    ensures { result ≡ list_all is_away_byte bytes.now }
+{
+    bytes.iter().all(|byte| is_away_byte(*byte))
+}
+
+/// Whether these bytes may be what is told of a user who is away: 1 to [`MAX_WORDS`] bytes, none of
+/// them NUL, CR or LF (RFC 2812, sections 2.3.1 and 4.1; the limit is our own choice).
+#[tactic(auto, unfolding(crate::specs::UserTexts::is_away))]
+pub fn is_away(bytes: &[u8]) -> bool
+    ensures { result ≡ is_away bytes.now }
+{
+    let Some(_) = bytes.split_first() else {
+        return false;
+    };
+    are_away_bytes(bytes) && bytes.len() <= MAX_WORDS
 }

@@ -2,7 +2,7 @@
 -- written from, and so each effect is read back.
 use Rattle.std.proofs.Common.{◌≡◌, ◌≢◌, ℕ, ◌≤◌, Bool, true, false, None, List, [], ◌∷◌, codes}
 use Rattle.std.proofs.Common.{count_by, decimal, length, is_some, if◌then◌else◌, subst, refl, sym}
-use Rattle.std.proofs.Common.{ap, ◌∙◌, arith, append-nil, lit≤}
+use Rattle.std.proofs.Common.{ap, ◌∙◌, arith, append-nil, lit≤, Ok}
 use Rattle.std.specs.Cmp.{first_so}
 use Rattle.std.specs.List.{filter_map, AllByRecursion}
 use Rattle.irc_line.specs.Messages.{IsPlain, IsPlainWord}
@@ -106,7 +106,8 @@ user_back below room known other others link user is agrees =
           read_again below.lines (introduction known user)
           (introduction_plain below.lines.names known reader user agrees)
           (below.fits room known (AddUser user) is.room_within told);
-      meaning = below.introduced known reader user agrees;
+      meaning = below.introduced known reader user agrees
+          ∙ ap (λ (u : User). Ok (AddUser u ∷ [])) is.sendable.whole;
     }
 
 -- ---- changes of modes

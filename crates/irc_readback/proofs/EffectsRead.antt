@@ -4,34 +4,30 @@ use Rattle.std.proofs.Common.{if◌then◌else◌, Option, Some, None, Ok, List,
 use Rattle.std.proofs.Common.{refl, ◌∙◌, ap, le-leb}
 use Rattle.std.specs.List.{list_all}
 use Rattle.std.specs.Option.{option_map_or}
-use Rattle.std.proofs.Math.Bool.{or-true}
 use Rattle.std.proofs.lemmas.Bool.{and_from}
 use Rattle.arrayvec.specs.ArrayVec.{ArrayVec}
 use Rattle.irc_line.specs.Limits.{max_line}
 use Rattle.irc_line.specs.Messages.{message_of}
-use Rattle.irc_names.specs.FoldLaws.{same-tells}
 use Rattle.irc_names.specs.Limits.{max_words}
 use Rattle.irc_names.specs.Names.{IsNick, IsChannel, fits, is_nick, is_channel, is_server}
 use Rattle.irc_users.specs.declared.user_change.UserChange.{UserChange}
 use Rattle.irc_room.specs.effect.By.TheVariants as by
 use Rattle.irc_room.specs.effect.Effect.{Effect}
-use Rattle.irc_room.specs.effect.Effect.TheVariants.{ChangeModes, Rename, Quit, Join, Part, Kick}
+use Rattle.irc_room.specs.effect.Effect.TheVariants.{Rename, Quit, Join, Part, Kick}
 use Rattle.irc_room.specs.effect.Effect.TheVariants.{SetTopic, Say, Invite, ChangeUser}
 use Rattle.irc_room.specs.effect.Target.{Target}
 use Rattle.irc_room.specs.effect.Target.TheVariants as target
 use Rattle.irc_room.specs.Effects.{needs_users}
 use Rattle.irc_room.specs.Limits.{IsChangeWithin}
 use Rattle.irc_room.specs.Sendable.{target_word}
-use Rattle.irc_link_reader.specs.Means.{first_fault, if_there, of_user, of_either, change_of}
-use Rattle.irc_link_reader.specs.Means.{is_itself_or_none, mode_line, change_line, user_mode_line}
-use Rattle.irc_link_reader.specs.Means.{read_by, say_line}
+use Rattle.irc_link_reader.specs.Means.{first_fault, if_there, of_user, change_of}
+use Rattle.irc_link_reader.specs.Means.{is_told_of, read_by, say_line}
 use Rattle.irc_readback.specs.ReadBack.{is_user_far}
 use Rattle.irc_link_reader.specs.Reader.{Reader, may_come}
-use Rattle.irc_link_words.specs.Lemmas.UserChangesRead.{are_change_words}
-use Rattle.irc_link_words.specs.UserChanges.{change_words}
 use Rattle.irc_link_words.specs.Words.{marked, is_marked, is_for_channel}
-use Rattle.irc_link_words.specs.Words.{target_of, are_changes, are_members_named, changes_of}
+use Rattle.irc_link_words.specs.Words.{target_of}
 use Rattle.irc_link_writer.specs.Written.{from, wire_change}
+use Rattle.irc_readback.specs.Lemmas.ChangeRead.{all_right, change_meant}
 use Rattle.irc_readback.specs.Lemmas.NameKinds.{nick-no_server, nick-for_user, channel-for_channel}
 use Rattle.irc_readback.specs.Lemmas.NameKinds.{marked-told, marked-name}
 
@@ -40,19 +36,6 @@ pub record IsExpected (reader : Reader) (nick : List ℕ) (effect : Effect) : Ty
   pub named : IsNick nick
   pub known : list_all (λ nick. is_some (reader.home nick)) (needs_users effect) ≡ true
   pub far : is_user_far reader nick ≡ true
-
-all_right : (parameters direction names : Bool) (effects : List Effect) → parameters ≡ true
-    → direction ≡ true → names ≡ true → first_fault (record {
-      parameters = parameters;
-      token = true;
-      direction = direction;
-      names = names;
-      effects = effects;
-    }) ≡ Ok effects
-all_right true true true effects p d n = refl
-all_right false direction names effects p d n = cc p
-all_right true false names effects p d n = cc d
-all_right true true false effects p d n = cc n
 
 there : (reader : Reader) (effect : Effect) → list_all (λ nick. is_some (reader.home nick))
     (needs_users effect) ≡ true → if_there reader effect ≡ effect ∷ []
@@ -172,27 +155,14 @@ topic_read reader nick channel text is named short =
     ∙ there reader (SetTopic (by.User nick) channel text) is.known)
 
 -- what a user has set of itself
-itself : (nick : List ℕ) → is_itself_or_none nick nick ≡ true
-itself nick = ap (λ b. not (is_nick nick && is_nick nick) || b) ((same-tells nick nick).1 refl)
-    ∙ or-true (not (is_nick nick && is_nick nick))
-
-for_user : (reader : Reader) (name nick : List ℕ) (words : List (List ℕ)) → IsNick nick
-    → mode_line reader (Some name) (nick ∷ words) ≡ user_mode_line reader name nick words
-for_user reader name nick words named =
-    ap (λ b. if b then of_either reader name (are_changes words)
-    (is_channel nick && are_members_named (changes_of words)) nick
-    (λ doer. ChangeModes doer nick (changes_of words))
-    else user_mode_line reader name nick words) (nick-for_user nick named)
-
 pub change_read : (reader : Reader) (nick : List ℕ) (change : UserChange)
-    → IsExpected reader nick (ChangeUser nick change) → IsChangeWithin change
+    → IsExpected reader nick (ChangeUser nick change) → is_told_of reader change ≡ true
+    → IsChangeWithin change
     → read_by reader (message_of (wire_change nick change)) ≡ Ok (ChangeUser nick change ∷ [])
-change_read reader nick change is keeps =
-    ap first_fault (for_user reader nick nick (change_words change) is.named)
-    ∙ ap (λ told. first_fault (change_line reader nick nick told))
-    (are_change_words change keeps).read_again
-    ∙ user_read reader nick (is_itself_or_none nick nick) (is_nick nick)
-    (ChangeUser nick change) is (itself nick) is.named
+change_read reader nick change is told_of keeps =
+    change_meant reader nick change is.named (far_may_come reader nick is.named is.far) told_of
+    keeps
+    ∙ ap Ok (there reader (ChangeUser nick change) is.known)
 
 -- a text, for a user or for a channel
 pub text_read : (reader : Reader) (nick : List ℕ) (notice : Bool) (to : Target) (text : ArrayVec ℕ)

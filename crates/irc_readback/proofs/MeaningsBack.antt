@@ -168,5 +168,5 @@ meant_back room known reader (ChangeUser nick change) plain is =
     let doer = nick_kept room nick is.room_within is.sendable.nick_stored in
     ap (λ n. read_by reader (message_of (wire_change n change))) doer.as_is
     ∙ change_read reader nick change
-    (expected room known reader (ChangeUser nick change) nick is doer is.doer_far)
+    (expected room known reader (ChangeUser nick change) nick is doer is.doer_far) is.told_of
     is.sendable.keeps

@@ -4,6 +4,7 @@ use Rattle.std.specs.Prelude.{◌≡◌, ◌≤◌, Ok, Some, [], ◌∷◌}
 use Rattle.std.specs.Option.{IfSome}
 use Rattle.irc_line.specs.Messages.{message_of}
 use Rattle.irc_users.specs.declared.user.User.{User}
+use Rattle.irc_users.specs.ChangesTold.{as_introduced}
 use Rattle.irc_room.specs.effect.Effect.TheVariants.{AddUser}
 use Rattle.irc_room.specs.Limits.{IsUserWithin}
 use Rattle.irc_routes.specs.Known.{Known}
@@ -26,4 +27,4 @@ pub record IsIntroduced (known : Known) (reader : Reader) (user : User) : Type 0
 -- such a user is read of its introduction
 abbrev pub IntroducedIsRead : Type 0
 IntroducedIsRead = (known : Known) (reader : Reader) (user : User) → IsIntroduced known reader user
-    → read_by reader (message_of (introduction known user)) ≡ Ok (AddUser user ∷ [])
+    → read_by reader (message_of (introduction known user)) ≡ Ok (AddUser (as_introduced user) ∷ [])

@@ -1,5 +1,6 @@
 -- Lemmas, with their proofs, that the crates above cite too. No rule stands here.
 pub mod CarriedParts
+pub mod ChangeRead
 pub mod IntroductionRead
 pub mod LinesReadBack
 pub mod ModeWords

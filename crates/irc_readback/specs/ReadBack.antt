@@ -7,19 +7,24 @@ use Rattle.irc_line.specs.Lines.{IsLine}
 use Rattle.irc_line.specs.Messages.{line_text, message_of}
 use Rattle.irc_line.specs.Reading.{read_of}
 use Rattle.irc_room.specs.effect.Effect.{Effect}
-use Rattle.irc_room.specs.effect.Effect.TheVariants.{AddUser, ChangeModes}
+use Rattle.irc_room.specs.effect.Effect.TheVariants.{AddUser, ChangeModes, ChangeUser}
 use Rattle.irc_room.specs.Effects.{needs_users}
 use Rattle.irc_room.specs.Limits.{IsWithinLimits}
 use Rattle.irc_room.specs.Room.{Room}
 use Rattle.irc_room.specs.Sendable.{IsSendable}
 use Rattle.irc_routes.specs.Known.{Known}
-use Rattle.irc_link_reader.specs.Means.{means}
+use Rattle.irc_link_reader.specs.Means.{is_told_of, means}
 use Rattle.irc_link_reader.specs.Reader.{Reader, reader_of}
 use Rattle.irc_link_writer.specs.Written.{wire}
 
 -- whether a user is there whose server is behind the link
 abbrev pub is_user_far : Reader → List ℕ → Bool
 is_user_far reader nick = option_map_or reader.is_far (reader.home nick) false
+
+-- an effect is told of to a reader: what a user changes of itself, as `is_told_of` has it
+abbrev pub is_effect_told_of : Reader → Effect → Bool
+is_effect_told_of reader (ChangeUser nick change) = is_told_of reader change
+is_effect_told_of reader other = true
 
 -- An effect as its writer has it, before it is done there, and a reader of the line.
 pub record IsReadable (room : Room) (known : Known) (reader : Reader)
@@ -34,6 +39,8 @@ pub record IsReadable (room : Room) (known : Known) (reader : Reader)
   -- whom the line is from, if anybody, is a user whose server is behind the link
   pub doer_far : IfSome (message_of (wire room known effect)).prefix
       (λ nick. is_user_far reader nick ≡ true)
+  -- links tell the reader of such an effect
+  pub told_of : is_effect_told_of reader effect ≡ true
 
 -- an effect other than that a user comes, or that the modes of a channel change
 abbrev pub IsPlainEffect : Effect → Type 0

@@ -178,6 +178,7 @@ pub(crate) fn change_line(
 {
     match change {
         UserChange::Invisible(invisible) => user_mode_line(doer, nick, *invisible, line),
+        UserChange::Away(_) => false,
     }
 }
 

@@ -6,8 +6,10 @@ mod adding;
 mod fault;
 mod info;
 pub mod laws;
+mod newcomer;
 mod numbers;
 mod own;
+mod programs;
 mod routes;
 mod rows;
 mod server_row;
@@ -15,7 +17,9 @@ mod tokens;
 
 pub use fault::RoutesFault;
 pub use info::Info;
+pub use newcomer::Newcomer;
 pub use own::Own;
+pub use programs::Programs;
 pub use routes::Routes;
 pub use server_row::ServerRow;
 

@@ -17,7 +17,8 @@ use irc_channels::Words;
 use irc_modes::ModeChange;
 use irc_names::ChannelName;
 use irc_room::{By, Effect, ModeChanges, Room};
-use irc_stage::{Link, Newcomer, Serving};
+use irc_routes::Newcomer;
+use irc_stage::{Link, Serving};
 use std::alloc::{AllocError, Global};
 
 /// The text with which a user quits whose nickname another has too (our own).
@@ -64,14 +65,13 @@ pub(crate) fn gain(serving: Serving, link: Link, server: &NewServer) -> Result<S
     ensures { IfOk result (λ told. told ≡ told_by link (server_told server.now) serving) }
 {
     let newcomer = Newcomer {
-        link,
         uplink: &server.uplink,
-        name: &server.name,
+        name: server.name.as_bytes(),
         distance: server.distance,
         token: server.token,
         info: &server.info,
     };
-    let (serving, is_known) = serving.add_server(&newcomer)?;
+    let (serving, is_known) = serving.add_server(link, &newcomer)?;
     if !is_known {
         return Ok(serving);
     }

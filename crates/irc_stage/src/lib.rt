@@ -27,7 +27,6 @@ mod ways;
 pub use clients::{Client, Waiting};
 pub use handling::Handling;
 pub use link_end::LinkEnd;
-pub use linked::Newcomer;
 pub use numbers::{Conn, Link};
 pub use origin::{Origin, Speaker};
 pub use peer::Peer;

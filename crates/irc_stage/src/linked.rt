@@ -22,27 +22,10 @@ use irc_line::Text;
 use irc_link_words::Password;
 use irc_names::{ChannelName, ServerName};
 use irc_room::{Effect, Named, Room, does};
-use irc_routes::{Info, Routes, RoutesFault};
+use irc_routes::{Newcomer, Routes, RoutesFault};
 use irc_users::User;
 use std::alloc::{AllocError, Global};
 use std::collections::BTreeMap;
-
-/// A server more, as its neighbour tells of it (RFC 2813 section 4.1.2).
-#[derive(Clone, Copy)]
-pub struct Newcomer<'a> {
-    /// The link that it is behind.
-    pub link: Link,
-    /// The server that it is linked to, on the side toward this one.
-    pub uplink: &'a ServerName,
-    /// Its name.
-    pub name: &'a ServerName,
-    /// How many links away it is.
-    pub distance: u32,
-    /// The neighbour's number for it.
-    pub token: u32,
-    /// How it describes itself.
-    pub info: &'a Info,
-}
 
 impl ServerParts {
     /// The end of a link, if it is open.
@@ -108,27 +91,24 @@ impl ServerParts {
     ///
     /// # Errors
     /// Where memory runs out.
-    pub(crate) fn add_server(&mut self, newcomer: &Newcomer<'_>) -> Result<bool, AllocError>
+    pub(crate) fn add_server(
+        &mut self,
+        link: Link,
+        newcomer: &Newcomer<'_>,
+    ) -> Result<bool, AllocError>
         requires serving { IsServing self.old }
-        requires met { IsMetAt newcomer.now.link self.old }
+        requires met { IsMetAt link self.old }
         ensures is_known { IfOk result
-            (λ is_known. is_known ≡ takes_newcomer newcomer.now (view_of self.old)) }
-        ensures known { IfOk result (IsKnownIf newcomer.now self.old self.new) }
+            (λ is_known. is_known ≡ takes_newcomer link newcomer.now (view_of self.old)) }
+        ensures known { IfOk result (IsKnownIf link newcomer.now self.old self.new) }
         ensures serving { OnOk result (IsServing self.new) }
     {
-        let link = newcomer.link.number();
+        let link = link.number();
         if self.routes.token_in(link, newcomer.token).is_some() {
             return Ok(false);
         }
         self.ways.forget();
-        match self.routes.add_server(
-            link,
-            newcomer.uplink,
-            newcomer.name.as_bytes(),
-            newcomer.distance,
-            newcomer.token,
-            newcomer.info,
-        ) {
+        match self.routes.add_server(link, newcomer) {
             Ok(()) => Ok(true),
             Err(RoutesFault::Memory) => Err(AllocError),
             Err(_) => Ok(false),

@@ -10,7 +10,6 @@ ghost use Rattle.irc_stage.specs.Loops.Handling.{closed_for, told_on, told_to_al
 ghost use Rattle.irc_stage.specs.Loops.Handling.{IsGained};
 
 use crate::handling::Handling;
-use crate::linked::Newcomer;
 use crate::numbers::Link;
 use crate::parts::ServerParts;
 use crate::view::View;
@@ -20,6 +19,7 @@ use irc_line::Text;
 use irc_link_words::Password;
 use irc_names::{ChannelName, Nick, ServerName};
 use irc_room::Effect;
+use irc_routes::Newcomer;
 use std::alloc::{AllocError, Global};
 use std::marker::Model;
 
@@ -113,11 +113,15 @@ impl Serving {
     ///
     /// # Errors
     /// Where memory runs out.
-    pub fn add_server(mut self, newcomer: &Newcomer<'_>) -> Result<(Self, bool), AllocError>
-        requires met { IsMetEnd (get self.state.ends newcomer.now.link) }
-        ensures { IfOk result (λ gained. IsGained newcomer.now self gained.1 gained.0) }
+    pub fn add_server(
+        mut self,
+        link: Link,
+        newcomer: &Newcomer<'_>,
+    ) -> Result<(Self, bool), AllocError>
+        requires met { IsMetEnd (get self.state.ends link) }
+        ensures { IfOk result (λ gained. IsGained link newcomer.now self gained.1 gained.0) }
     {
-        let is_known = self.parts.add_server(newcomer)?;
+        let is_known = self.parts.add_server(link, newcomer)?;
         Ok((self, is_known))
     }
 

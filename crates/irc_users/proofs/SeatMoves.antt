@@ -12,8 +12,9 @@ use Rattle.irc_names.specs.Tables.{Table, row, alter, moved, put_row}
 use Rattle.irc_names.specs.TableLaws.{same_fold, one_fold, same_table, row-alter, row-alter_same}
 use Rattle.irc_tables.specs.Lemmas.RowsAsTable.{alter_alike, alter-absent}
 use Rattle.irc_users.specs.declared.user.User.{User}
+use Rattle.irc_users.specs.declared.user_change.UserChange.{UserChange}
 use Rattle.irc_users.specs.declared.users.Head.{Head}
-use Rattle.irc_users.specs.UserTable.{OthersKeep, with_nick, with_invisible, has_nick, is_taken}
+use Rattle.irc_users.specs.UserTable.{OthersKeep, with_change, with_nick, has_nick, is_taken}
 use Rattle.irc_users.specs.UserTable.{rename_fault}
 use Rattle.irc_users.specs.declared.fault.RenameFault.TheVariants.{Taken, NoSuchUser}
 use Rattle.irc_users.specs.Rosters.{boxed, head, users_by, numbers_by, users_in, numbers_in}
@@ -48,11 +49,11 @@ others_keep nick o before after is fold differs =
     by_fold false other = refl
 
 -- where there is no user, there is nothing to set
-pub mode_absent : (table : Table User) (fold : List ℕ) (b : Bool) → row table fold ≡ None
-    → table ≡ alter fold (option_map (with_invisible b)) table
-mode_absent table fold b none =
+pub set_absent : (table : Table User) (fold : List ℕ) (change : UserChange)
+    → row table fold ≡ None → table ≡ alter fold (option_map (with_change change)) table
+set_absent table fold change none =
     sym (alter-absent table fold none) ∙ alter_alike table fold (λ _. None)
-    (option_map (with_invisible b)) (ap (option_map (with_invisible b)) (sym none))
+    (option_map (with_change change)) (ap (option_map (with_change change)) (sym none))
 
 moved_in_steps : {X : Type 0} (table rest after : Table X) (old new : List ℕ)
     (change : X → X) (x : X) → row table old ≡ Some x → rest ≡ alter old (λ _. None) table
@@ -245,52 +246,56 @@ module _ (seats : Slab (Box User)) (heads : Table Head) (fold : List ℕ) (h : H
     his_row : row (users_in seats heads) fold ≡ Some box.value
     his_row = user_row (sitting seats) heads fold h there ∙ ap (option_map boxed) sits
 
-    -- with mode i, or without it
-    module _ (b : Bool) (later : Table Head) (done : now.value ≡ with_invisible b box.value)
-        (put : later ≡ alter (key h.nick)
-        (λ _. Some (record { nick = h.nick; number = h.number; invisible = b })) heads) where
-      head_now_is : record { nick = h.nick; number = h.number; invisible = b }
-          ≡ head h.number now.value
-      head_now_is =
-          ap (λ (k : Head). record { nick = k.nick; number = k.number; invisible = b })
-          (sym head_is) ∙ ap (head h.number) (sym done)
+    -- by a change of his own, which leaves him his nickname
+    module _ (change : UserChange) (done : now.value ≡ with_change change box.value) where
+      still_named : key now.value.nick ≡ fold
+      still_named =
+          ap (λ (u : User). key u.nick) done ∙ ap (λ (k : Head). key k.nick) head_is ∙ named_so
 
+      pub head_there : (k : Head) → k ≡ head h.number now.value
+          → is_some (row heads (key k.nick)) ≡ true
+      head_there k is =
+          ap (λ (j : Head). is_some (row heads (key j.nick))) is
+          ∙ ap (λ f. is_some (row heads f)) still_named ∙ ap is_some there
+
+    module _ (change : UserChange) (later : Table Head)
+        (done : now.value ≡ with_change change box.value)
+        (put : later ≡ alter (key now.value.nick) (λ _. Some (head h.number now.value)) heads) where
       fits_so : (user : User) → Some now.value ≡ Some user → key user.nick ≡ fold
       fits_so user e =
           let one : user ≡ now.value = cc in
-          ap (λ (u : User). key u.nick) (one ∙ done) ∙ ap (λ (k : Head). key k.nick) head_is
-          ∙ named_so
+          ap (λ (u : User). key u.nick) one ∙ still_named change done
 
       stays : GoTogether (sitting seats) heads h.number fold (Some now.value)
       stays = his_together (sitting seats) heads roster fold h (Some now.value) there fits_so
 
-      mode_put : later ≡ alter fold (λ _. Some (head h.number now.value)) heads
-      mode_put = put ∙ ap (λ at. alter at
-          (λ _. Some (record { nick = h.nick; number = h.number; invisible = b })) heads) named_so
-          ∙ ap (λ k. alter fold (λ _. Some k) heads) head_now_is
+      set_put : later ≡ alter fold (λ _. Some (head h.number now.value)) heads
+      set_put =
+          put ∙ ap (λ at. alter at (λ _. Some (head h.number now.value)) heads)
+          (still_named change done)
 
-      pub mode_users : users_in seats_now later ≡ alter fold (option_map (with_invisible b))
+      pub set_users : users_in seats_now later ≡ alter fold (option_map (with_change change))
           (users_in seats heads)
-      mode_users =
+      set_users =
           users_put (sitting seats) (sitting seats_now) heads later h.number fold
           (Some now.value) roster
-          (seat_changes seats seats_now h.number (Some now) changed_seat) stays mode_put
+          (seat_changes seats seats_now h.number (Some now) changed_seat) stays set_put
           ∙ alter_alike (users_in seats heads) fold
-          (λ _. Some now.value) (option_map (with_invisible b))
-          (ap Some done ∙ ap (option_map (with_invisible b)) (sym his_row))
+          (λ _. Some now.value) (option_map (with_change change))
+          (ap Some done ∙ ap (option_map (with_change change)) (sym his_row))
 
-      pub mode_numbers : numbers_in later ≡ numbers_in heads
-      mode_numbers =
+      pub set_numbers : numbers_in later ≡ numbers_in heads
+      set_numbers =
           numbers_put (sitting seats) (sitting seats_now) heads later h.number fold
           (Some now.value) roster
-          (seat_changes seats seats_now h.number (Some now) changed_seat) stays mode_put
+          (seat_changes seats seats_now h.number (Some now) changed_seat) stays set_put
           ∙ alter-idle (numbers_in heads) fold (Some h.number) (number_row heads fold h there)
 
-      pub mode_roster : IsRoster seats_now later
-      mode_roster =
+      pub set_roster : IsRoster seats_now later
+      set_roster =
           seating_put (sitting seats) (sitting seats_now) heads later h.number fold
           (Some now.value) roster
-          (seat_changes seats seats_now h.number (Some now) changed_seat) stays mode_put
+          (seat_changes seats seats_now h.number (Some now) changed_seat) stays set_put
 
     -- under another nickname: as if he went, and came back into the same seat
     module _ (new : List ℕ) (later : Table Head) (k : Head)

@@ -1,3 +1,4 @@
 pub mod UserTable
 pub mod Rosters
 pub mod Lemmas
+pub mod ChangesTold

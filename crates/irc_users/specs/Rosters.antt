@@ -1,6 +1,6 @@
 -- How users lie in memory: each in a seat of its own, whose number it keeps, and under its nickname
 -- what it is found by.
-use Rattle.std.specs.Prelude.{◌≡◌, ℕ, false, List, [], Option, Some}
+use Rattle.std.specs.Prelude.{◌≡◌, ℕ, List, [], Option, Some}
 use Rattle.std.specs.Global.{Box}
 use Rattle.std.specs.Option.{option_map, option_map_or}
 use Rattle.slab.specs.Slab.{Slab, get}
@@ -8,7 +8,7 @@ use Rattle.irc_names.specs.Fold.{key}
 use Rattle.irc_names.specs.Tables.{Table, row, each}
 use Rattle.irc_users.specs.declared.user.User.{User}
 use Rattle.irc_users.specs.declared.users.Head.{Head}
-use Rattle.irc_users.specs.UserTable.{NumberedUsers}
+use Rattle.irc_users.specs.UserTable.{NumberedUsers, new_user}
 
 -- the user in a box
 abbrev pub boxed : Box User → User
@@ -57,7 +57,7 @@ pub record AreKept (seats_before seats_after : Slab (Box User))
 
 -- nobody, where a seat is empty
 abbrev pub nobody : User
-nobody = record { nick = []; user = []; host = []; real = []; home = []; invisible = false }
+nobody = new_user [] [] [] [] []
 
 -- who sits where a head says
 abbrev pub sitter : Slab (Box User) → Head → User

@@ -1,12 +1,12 @@
 -- The users of a room by nickname: a finite map whose keys are the folds of the nicknames (RFC 2812
 -- sections 1.2.1 and 2.2). Beside it their numbers.
-use Rattle.std.specs.Prelude.{ℕ, Bool, true, not, ◌&&◌, ◌||◌, List, nat_eq, is_some, is_none}
+use Rattle.std.specs.Prelude.{ℕ, Bool, true, false, not, ◌&&◌, ◌||◌, List, nat_eq, is_some, is_none}
 use Rattle.std.specs.Prelude.{if◌then◌else◌, refl, Option, Some, None, Result, Ok, Err, IfOk, ◌≡◌}
 use Rattle.std.specs.Prelude.{◌≢◌, map}
 use Rattle.std.specs.Borrow.{Bor}
 use Rattle.std.specs.Global.{Vec}
 use Rattle.std.specs.Option.{option_map}
-use Rattle.std.specs.Coded.{Coded, code_by, coded×, coded_bool, coded_ℕ}
+use Rattle.std.specs.Coded.{Coded, code_by, coded×, coded_bool, coded_option, coded_ℕ}
 use Rattle.std.specs.FinMap.{code}
 use Rattle.std.specs.Cmp.Lexicographic.{pointwise}
 use Rattle.irc_names.specs.Fold.{key, same}
@@ -17,25 +17,49 @@ use Rattle.irc_tables.specs.TableChanges.{with_value}
 use Rattle.irc_users.specs.declared.fault.RenameFault.{RenameFault}
 use Rattle.irc_users.specs.declared.fault.RenameFault.TheVariants.{Taken, NoSuchUser, Memory}
 use Rattle.irc_users.specs.declared.user.User.{User}
+use Rattle.irc_users.specs.declared.user.UserSet.{UserSet}
 use Rattle.irc_users.specs.declared.user_change.UserChange.{UserChange}
-use Rattle.irc_users.specs.declared.user_change.UserChange.TheVariants.{Invisible}
+use Rattle.irc_users.specs.declared.user_change.UserChange.TheVariants.{Invisible, Away}
+
+-- what a user has set is stored as its fields
+abbrev pub set_code : Coded UserSet
+set_code =
+    code_by (Option (List ℕ)) (coded_option coded_name) (λ s. s.away) (λ p. record { away = p })
+    (λ _. refl)
 
 -- a user is stored as its fields
 abbrev pub user_code : Coded User
 user_code =
-    code_by (List ℕ × (List ℕ × (List ℕ × (List ℕ × (List ℕ × Bool)))))
+    code_by (List ℕ × (List ℕ × (List ℕ × (List ℕ × (List ℕ × (Bool × UserSet))))))
     (coded× coded_name (coded× coded_name
-    (coded× coded_name (coded× coded_name (coded× coded_name coded_bool)))))
-    (λ u. (u.nick, (u.user, (u.host, (u.real, (u.home, u.invisible))))))
+    (coded× coded_name (coded× coded_name (coded× coded_name (coded× coded_bool set_code))))))
+    (λ u. (u.nick, (u.user, (u.host, (u.real, (u.home, (u.invisible, u.set)))))))
     (λ p. record {
       nick = p.0;
       user = p.1.0;
       host = p.1.1.0;
       real = p.1.1.1.0;
       home = p.1.1.1.1.0;
-      invisible = p.1.1.1.1.1;
+      invisible = p.1.1.1.1.1.0;
+      set = p.1.1.1.1.1.1;
     })
     (λ _. refl)
+
+-- nothing is set, but mode i may be
+abbrev pub nothing_set : UserSet
+nothing_set = record { away = None }
+
+-- a user who has set nothing of itself
+abbrev pub new_user : List ℕ → List ℕ → List ℕ → List ℕ → List ℕ → User
+new_user nick user host real home = record {
+  nick = nick;
+  user = user;
+  host = host;
+  real = real;
+  home = home;
+  invisible = false;
+  set = nothing_set;
+}
 
 -- users by the folds of their nicknames, and by the same folds their numbers
 pub record NumberedUsers : Type 0 where
@@ -78,18 +102,25 @@ with_nick nick user = record user { nick = nick }
 -- whether mode i is set after a change
 abbrev pub invisible_with : UserChange → Bool → Bool
 invisible_with (Invisible invisible) was = invisible
+invisible_with (Away text) was = was
+
+-- what is set beside it after a change
+abbrev pub set_with : UserChange → UserSet → UserSet
+set_with (Invisible invisible) was = was
+set_with (Away text) was = record was { away = text }
 
 -- the user after a change of its own
 abbrev pub with_change : UserChange → User → User
-with_change change user = record user { invisible = invisible_with change user.invisible }
+with_change change user = record user {
+  invisible = invisible_with change user.invisible;
+  set = set_with change user.set;
+}
 
--- whether a user is told of a change of its own by a line (RFC 2812 section 3.1.5)
+-- whether a user is told of a change of its own by a line (RFC 2812 section 3.1.5); who is away is
+-- told so by a reply (section 4.1)
 abbrev pub is_shown : UserChange → Bool
 is_shown (Invisible invisible) = true
-
--- the user with mode i, or without it
-abbrev pub with_invisible : Bool → User → User
-with_invisible invisible user = record user { invisible = invisible }
+is_shown (Away text) = false
 
 -- a user put under its nickname
 abbrev pub with_user : User → Table User → Table User

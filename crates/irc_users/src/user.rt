@@ -1,8 +1,43 @@
 //! A user.
 ghost use Rattle.std.specs.Prelude.{◌≡◌};
-ghost use Rattle.irc_users.specs.UserTable.{is_home, is_found_by};
+ghost use Rattle.irc_users.specs.UserTable.{is_home, is_found_by, new_user, nothing_set};
 
-use irc_names::{Host, Nick, RealName, ServerName, UserName, mask_matches};
+use irc_names::{AwayText, Host, Nick, RealName, ServerName, UserName, mask_matches};
+
+/// What a user has set of itself, but for mode i.
+#[derive(Drop)]
+pub struct UserSet {
+    /// What is told of it, where it is away (RFC 2812 section 4.1).
+    pub away: Option<AwayText>,
+}
+
+impl UserSet {
+    /// Nothing.
+    pub fn fresh() -> Self
+        ensures { result ≡ nothing_set }
+    {
+        UserSet { away: None }
+    }
+
+    /// The same once more.
+    pub fn copy(&self) -> Self
+        ensures { result ≡ self.now }
+    {
+        UserSet {
+            away: away_copy(&self.away),
+        }
+    }
+}
+
+/// The same text once more, where there is one.
+pub(crate) fn away_copy(text: &Option<AwayText>) -> Option<AwayText>
+    ensures { result ≡ text.now }
+{
+    match text {
+        Some(text) => Some(text.copy()),
+        None => None,
+    }
+}
 
 /// A registered user (RFC 2812 sections 3.1.2 and 3.1.3).
 #[derive(Drop)]
@@ -19,9 +54,26 @@ pub struct User {
     pub home: ServerName,
     /// Whether it has set mode i.
     pub invisible: bool,
+    /// What it has set beside that.
+    pub set: UserSet,
 }
 
 impl User {
+    /// A user who has set nothing of itself.
+    pub fn new(nick: Nick, user: UserName, host: Host, real: RealName, home: ServerName) -> Self
+        ensures { result ≡ new_user nick user host real home }
+    {
+        User {
+            nick,
+            user,
+            host,
+            real,
+            home,
+            invisible: false,
+            set: UserSet::fresh(),
+        }
+    }
+
     /// The same user once more.
     pub fn copy(&self) -> Self
         ensures { result ≡ self.now }
@@ -33,6 +85,7 @@ impl User {
             real: self.real.copy(),
             home: self.home.copy(),
             invisible: self.invisible,
+            set: self.set.copy(),
         }
     }
 

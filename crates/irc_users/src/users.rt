@@ -10,7 +10,7 @@ ghost use Rattle.irc_tables.specs.TableChanges.{tried_at, with_value, without};
 ghost use Rattle.irc_users.specs.UserTable.{HasNumber, IsNumbered, OthersKeep, FindsUsers};
 ghost use Rattle.irc_users.specs.UserTable.{RenamesUnless, has_nick, is_home, is_found_by};
 ghost use Rattle.irc_users.specs.UserTable.{is_taken, moved_to, number_moved, rename_fault};
-ghost use Rattle.irc_users.specs.UserTable.{spelling_of, with_change, with_invisible, with_user};
+ghost use Rattle.irc_users.specs.UserTable.{spelling_of, with_change, with_user};
 ghost use Rattle.irc_users.specs.declared.user.User.{User};
 ghost use Rattle.irc_users.specs.Rosters.{AreKept, IsRoster, boxed, head, numbers_in, sitter};
 ghost use Rattle.irc_users.specs.Rosters.{users_in};
@@ -163,11 +163,7 @@ impl Users {
             (with_change change.now) self.old.users }
         ensures numbers { self.new.numbers ≡ self.old.numbers }
     {
-        match change {
-            UserChange::Invisible(invisible) => {
-                set_mode(&mut self.seats, &mut self.heads, nick, *invisible);
-            }
-        }
+        change_user(&mut self.seats, &mut self.heads, nick, change);
     }
 
     /// Takes out the user with a nickname, if there is one. No other user's number changes.
@@ -443,15 +439,15 @@ fn respell(
     Ok(true)
 }
 
-/// Sets whether the user with a nickname has mode i, if there is one.
-fn set_mode(
+/// Makes a change in the user with a nickname, if there is one, and in what it is found by.
+fn change_user(
     seats: &mut Slab<Box<User, Global>>,
     heads: &mut NameMap<Head>,
     nick: &Nick,
-    invisible: bool,
+    change: &UserChange,
 )
     requires { IsRoster seats.old heads.old }
-    ensures users { users_in seats.new heads.new ≡ tried_at nick.now (with_invisible invisible)
+    ensures users { users_in seats.new heads.new ≡ tried_at nick.now (with_change change.now)
         (users_in seats.old heads.old) }
     ensures numbers { numbers_in heads.new ≡ numbers_in heads.old }
     ensures roster { IsRoster seats.new heads.new }
@@ -460,15 +456,11 @@ fn set_mode(
         return;
     };
     let number = head.number;
-    let set = Head {
-        nick: head.nick.copy(),
-        number,
-        invisible,
-    };
-    let Ok(_) = put_head(heads, set) else {
+    let user = &mut seats[number];
+    change.set_in(user);
+    let Ok(_) = put_head(heads, Head::of(user, number)) else {
         unreachable!();
     };
-    seats[number].invisible = invisible;
 }
 
 /// Puts in a head, in place of that of its nickname. Where there is one, it takes no memory.

@@ -19,6 +19,8 @@ const USERS: &str = "\
 1 nick bi 1 u h 1 +i :B I => adds bi u h B I b.net yes => NICK bi 2 u h 2 +i :B I
 1 :bo MODE bo +i => hides bo yes => :bo MODE bo +i
 1 :bo MODE BO -i => hides bo no => :bo MODE bo -i
+1 :bo MODE bo +a :at lunch => leaves bo at lunch => :bo MODE bo +a :at lunch
+1 :bo MODE bo -a => returns bo => :bo MODE bo -a
 1 :bi NICK by => renames bi by => :bi NICK by
 1 :bo PRIVMSG al :hi there => says bo no al hi there => :bo PRIVMSG al :hi there
 1 :bo NOTICE #d :hi => says bo yes #d hi => :bo NOTICE #d :hi
@@ -64,6 +66,9 @@ const REFUSED: &str = "\
 1 :bo MODE #c +x => parameters
 1 :bo MODE al +i => parameters
 1 :bo MODE bo i => parameters
+1 :bo MODE bo +a => parameters
+1 :bo MODE bo +a : => parameters
+1 :bo MODE bo -a :x => parameters
 1 NICK dd 1 u h 1 i :D => parameters
 2 :bo QUIT :x => wrong direction
 2 :bo MODE #c +m => wrong direction

@@ -142,6 +142,15 @@ fn show_user_change(nick: &Nick, change: &UserChange, shown: &mut ShownText) {
             append_word(shown, nick.as_bytes());
             append_word(shown, flag_word(*invisible));
         }
+        UserChange::Away(Some(text)) => {
+            append_word(shown, b"leaves");
+            append_word(shown, nick.as_bytes());
+            append_word(shown, text.as_bytes());
+        }
+        UserChange::Away(None) => {
+            append_word(shown, b"returns");
+            append_word(shown, nick.as_bytes());
+        }
     }
 }
 

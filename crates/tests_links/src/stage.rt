@@ -15,7 +15,7 @@ use irc_channels::Words;
 use irc_link_words::read_changes;
 use irc_names::{ChannelName, Host, Nick, ServerName, is_server};
 use irc_room::{By, Effect, ModeChanges, Room, ShownLine};
-use irc_routes::{Info, Own, Routes};
+use irc_routes::{Info, Newcomer, Own, Routes};
 use irc_users::{RealName, User, UserName};
 use itoa::Buffer;
 use std::alloc::Global;
@@ -99,7 +99,14 @@ fn add(rt: &impl Abort, routes: &mut Routes, uplink: &[u8], name: &[u8], row: (u
     let (distance, number, info) = row;
     if routes.token_in(1, number).is_none() {
         let info = description(rt, info);
-        let _ = routes.add_server(1, &server(rt, uplink), name, distance, number, &info);
+        let newcomer = Newcomer {
+            uplink: &server(rt, uplink),
+            name,
+            distance,
+            token: number,
+            info: &info,
+        };
+        let _ = routes.add_server(1, &newcomer);
     }
 }
 
@@ -115,14 +122,13 @@ fn fill(rt: &impl Abort, routes: &mut Routes) {
 
 fn user(rt: &impl Abort, name: &str, words: &str) -> User {
     let (home, real) = first_word(words);
-    User {
-        nick: nick(rt, name.as_bytes()),
-        user: UserName::clean(b"u"),
-        host: host(rt, b"h"),
-        real: RealName::cut(real.as_bytes()),
-        home: server(rt, home.as_bytes()),
-        invisible: false,
-    }
+    User::new(
+        nick(rt, name.as_bytes()),
+        UserName::clean(b"u"),
+        host(rt, b"h"),
+        RealName::cut(real.as_bytes()),
+        server(rt, home.as_bytes()),
+    )
 }
 
 /// The effect of a step.

@@ -10,8 +10,8 @@ use crate::script::{
     ScriptRow, ScriptStage, ShownText, append, append_word, script_holds, show_flag,
 };
 use irc_names::{
-    BanMask, ChannelName, Exact, Host, Nick, ServerName, UserName, fold, is_ban_mask, is_channel,
-    is_host, is_key, is_nick, is_server, mask_matches,
+    BanMask, ChannelName, Exact, Host, Nick, ServerName, UserName, fold, is_away, is_ban_mask,
+    is_channel, is_host, is_key, is_nick, is_server, mask_matches,
 };
 use std::alloc::Global;
 use std::cmp::Ordering;
@@ -66,6 +66,11 @@ server anet = no
 server A.net = no
 server a_b.net = no
 server  = no
+away at lunch, back at 1: = yes
+away : = yes
+away  = no
+away a\0 = no
+away a\rb = no
 key a: = yes
 key !~ = yes
 key 12345678901234567890123 = yes
@@ -141,6 +146,7 @@ fn show_name(kind: &str, bytes: &[u8], shown: &mut ShownText) {
         "host" => is_host(bytes),
         "server" => is_server(bytes),
         "key" => is_key(bytes),
+        "away" => is_away(bytes),
         "mask" => is_ban_mask(bytes),
         _ => return append(shown, b" no verb"),
     };

@@ -2,7 +2,7 @@
 use crate::script::{ScriptRow, ScriptStage, ShownText, append, append_word, script_holds, server};
 use arrayvec::ArrayVec;
 use irc_names::{MAX_SERVER, ServerName, is_server};
-use irc_routes::{Info, Own, Routes, RoutesFault, ServerRow};
+use irc_routes::{Info, Newcomer, Own, Routes, RoutesFault, ServerRow};
 use itoa::Buffer;
 use std::alloc::{AllocError, Global};
 use std::process::Abort;
@@ -84,7 +84,16 @@ fn add(
     let info = Info::read(b"B").expect(rt, "a description");
     match routes.token_in(link, number) {
         Some(_) => Ok(()),
-        None => routes.add_server(link, &server(rt, uplink), name, number, number, &info),
+        None => routes.add_server(
+            link,
+            &Newcomer {
+                uplink: &server(rt, uplink),
+                name,
+                distance: number,
+                token: number,
+                info: &info,
+            },
+        ),
     }
 }
 

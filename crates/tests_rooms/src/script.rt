@@ -88,14 +88,13 @@ pub fn server(rt: &impl Abort, word: &str) -> ServerName {
 /// The user that a row describes. Its user name is `u`.
 pub fn user(rt: &impl Abort, row: ScriptRow<'_>) -> User {
     let (host, real) = row.text.split_once(' ').unwrap_or(("", ""));
-    User {
-        nick: nick(rt, row.first),
-        user: UserName::clean(b"u"),
-        host: Host::read(host.as_bytes()).expect(rt, "a host"),
-        real: RealName::cut(real.as_bytes()),
-        home: server(rt, row.second),
-        invisible: false,
-    }
+    User::new(
+        nick(rt, row.first),
+        UserName::clean(b"u"),
+        Host::read(host.as_bytes()).expect(rt, "a host"),
+        RealName::cut(real.as_bytes()),
+        server(rt, row.second),
+    )
 }
 
 /// Adds what an item asks to be changed, where it does.

@@ -10,6 +10,8 @@ use Rattle.arrayvec.specs.ArrayVec.{ArrayVec}
 use Rattle.irc_names.specs.Tables.{Table, row}
 use Rattle.irc_line.specs.Messages.{Written, text}
 use Rattle.irc_users.specs.declared.user.User.{User}
+use Rattle.irc_users.specs.declared.user_change.UserChange.{UserChange}
+use Rattle.irc_users.specs.ChangesTold.{changes_of}
 use Rattle.irc_channels.specs.declared.flags.Flags.{Flags}
 use Rattle.irc_channels.specs.declared.channel.Channel.{Channel}
 use Rattle.irc_modes.specs.Modes.{is_nil}
@@ -17,11 +19,12 @@ use Rattle.irc_modes.specs.ModesSet.{set_changes, ban_changes}
 use Rattle.irc_modes.specs.declared.modes.ModeChange.{ModeChange}
 use Rattle.irc_tables.specs.RowViews.{row_entry}
 use Rattle.irc_tables.specs.declared.table.Row.{Row}
+use Rattle.irc_room.specs.effect.Effect.TheVariants.{ChangeUser}
 use Rattle.irc_room.specs.Room.{Room}
 use Rattle.irc_routes.specs.Known.{Known}
 use Rattle.irc_routes.specs.declared.server_row.ServerRow.{ServerRow}
 use Rattle.irc_merge.specs.Bursts.{in_lines, members_a_line, bans_a_line}
-use Rattle.irc_link_writer.specs.Written.{introduction}
+use Rattle.irc_link_writer.specs.Written.{introduction, wire}
 use Rattle.irc_link_reader.specs.declared.deed.NewMember.{NewMember}
 pub use Rattle.irc_link_reader.specs.Loops.Tellings.{told_member, told_members}
 use Rattle.irc_burst_lines.specs.DeedLines.{server_parts, members_text, njoin_parts, mode_parts}
@@ -78,8 +81,20 @@ server_rows known rows = map (row_parts known) (rows_now rows)
 abbrev pub user_lines : Known → ℕ → List User → List Written
 user_lines known link users = map (introduction known) (filter (is_near_user known link) users)
 
+-- the line of a change of a user's own, and those of what it has set
+abbrev pub own_parts : Room → Known → User → UserChange → Written
+own_parts room known user change = wire room known (ChangeUser user.nick change)
+
+abbrev pub own_lines : Room → Known → User → List Written
+own_lines room known user = map (own_parts room known user) (changes_of user)
+
+abbrev pub change_lines : Room → Known → ℕ → List User → List Written
+change_lines room known link users =
+    flat_map (own_lines room known) (filter (is_near_user known link) users)
+
 abbrev pub users_told : Known → ℕ → Room → List Written
-users_told known link room = user_lines known link (values room.users)
+users_told known link room =
+    user_lines known link (values room.users) ++ change_lines room known link (values room.users)
 
 -- ---- a channel
 

@@ -8,10 +8,13 @@ use Rattle.std.proofs.lemmas.Option.{same_Some, none-some}
 use Rattle.irc_names.specs.Fold.{key}
 use Rattle.irc_names.specs.Names.{IsNick, IsChannel}
 use Rattle.irc_names.specs.Tables.{Table, fold_cmp, row, alter, each, moved}
+use Rattle.irc_names.specs.UserTexts.{IsAway}
 use Rattle.irc_names.specs.TableLaws.{same_fold, row-alter, row-each, row-moved, row-moved_none}
 use Rattle.irc_users.specs.declared.user.User.{User}
+use Rattle.irc_users.specs.declared.user.UserSet.{UserSet}
 use Rattle.irc_users.specs.declared.user_change.UserChange.{UserChange}
-use Rattle.irc_users.specs.UserTable.{with_nick, with_change}
+use Rattle.irc_users.specs.declared.user_change.UserChange.TheVariants.{Invisible, Away}
+use Rattle.irc_users.specs.UserTable.{set_with, with_nick, with_change}
 use Rattle.irc_modes.specs.declared.modes.ModeChange.{ModeChange}
 use Rattle.irc_modes.specs.declared.modes.ModeLetter.TheVariants as letter
 use Rattle.irc_modes.specs.declared.modes.ModeLetter.{ModeLetter}
@@ -25,6 +28,7 @@ use Rattle.irc_effects.specs.declared.effect.Effect.TheVariants.{Kick, ChangeMod
 use Rattle.irc_effects.specs.declared.effect.Effect.TheVariants.{Invite, ChangeUser}
 use Rattle.irc_effects.specs.Room.{Room}
 use Rattle.irc_effects.specs.Limits.{IsCarriedText, IsUserWithin, IsChannelWithin, IsBanCarried}
+use Rattle.irc_effects.specs.Limits.{IsChangeWithin}
 use Rattle.irc_effects.specs.Sendable.{IsNameFor, IsSentWord, IsSentChange}
 use Rattle.irc_effects.specs.Seen.{names_member}
 use Rattle.irc_effects.specs.After.{after}
@@ -111,11 +115,17 @@ nick_within new user is within = record {
   real_fits = within.real_fits;
   real_carried = within.real_carried;
   home = within.home;
+  away = within.away;
 }
 
-change_within : (change : UserChange) (user : User) → IsUserWithin user
+away_within : (change : UserChange) (was : UserSet) → IsChangeWithin change
+    → IfSome was.away IsAway → IfSome (set_with change was).away IsAway
+away_within (Invisible invisible) was keeps within = within
+away_within (Away text) was keeps within = keeps
+
+change_within : (change : UserChange) (user : User) → IsChangeWithin change → IsUserWithin user
     → IsUserWithin (with_change change user)
-change_within change user within = record {
+change_within change user keeps within = record {
   nick = within.nick;
   name = within.name;
   name_some = within.name_some;
@@ -123,6 +133,7 @@ change_within change user within = record {
   real_fits = within.real_fits;
   real_carried = within.real_carried;
   home = within.home;
+  away = away_within change user.set keeps within.away;
 }
 
 -- ---- channels
@@ -261,7 +272,7 @@ after_is_within_limits room (Invite by nick channel) within keeps = record {
 }
 after_is_within_limits room (ChangeUser nick change) within keeps = record {
   users = there_mapped IsUserWithin (key nick) (with_change change) room.users within.users
-      (λ before is. change_within change before is);
+      (λ before is. change_within change before keeps is);
   channels = within.channels;
 }
 
@@ -297,7 +308,7 @@ bans_carried room (c ∷ changes) sent =
     (ban_carried room c.letter c.word sent.0, bans_carried room changes sent.1)
 
 pub sent_keeps_limits : SentKeepsLimits
-sent_keeps_limits room (AddUser user) within sent = sent
+sent_keeps_limits room (AddUser user) within sent = sent.within
 sent_keeps_limits room (Rename nick new) within sent = sent.new_named
 sent_keeps_limits room (Join nick channel op) within sent =
     named channel (row room.channels (key channel))

@@ -15,9 +15,10 @@ use Rattle.irc_line.specs.Messages.{message_of}
 use Rattle.irc_names.specs.Fold.{key}
 use Rattle.irc_names.specs.Tables.{row}
 use Rattle.irc_users.specs.declared.user.User.{User}
+use Rattle.irc_users.specs.declared.user_change.UserChange.TheVariants.{Invisible, Away}
 use Rattle.irc_room.specs.effect.By.TheVariants as by
 use Rattle.irc_room.specs.effect.Effect.{Effect}
-use Rattle.irc_room.specs.effect.Effect.TheVariants.{AddUser, ChangeModes, SetTopic}
+use Rattle.irc_room.specs.effect.Effect.TheVariants.{AddUser, ChangeModes, ChangeUser, SetTopic}
 use Rattle.irc_room.specs.Effects.{has_user, needs_users, doer_of}
 use Rattle.irc_room.specs.OtherInvitations.{AreAlike}
 use Rattle.irc_room.specs.Readers.{home_under}
@@ -44,7 +45,7 @@ use Rattle.irc_link_writer.specs.Written.{next_distance, wire, written_token}
 use Rattle.irc_stage.specs.View.{View}
 use Rattle.irc_readback.specs.EachReadBack.{AgreesOnServer}
 use Rattle.irc_readback.specs.Introductions.{IsIntroduced}
-use Rattle.irc_readback.specs.ReadBack.{IsReadable, is_user_far}
+use Rattle.irc_readback.specs.ReadBack.{IsReadable, is_effect_told_of, is_user_far}
 use Rattle.irc_follow.specs.Tree.{Shape, index_in, shape, shape_in}
 use Rattle.irc_follow.specs.SideState.{ItemSetting, info_in, number, IsItemSetting, IsSoundSide}
 use Rattle.irc_follow.specs.SideState as of_side
@@ -286,6 +287,15 @@ module _ (s : ItemSetting) (fixed : IsItemSetting s) (t u : Name) (w : of_side.S
         by (Some nick) doer = doer_is_far nick doer
             (doer_there (has_user w.hall.room) effect nick doer doable.possible.users_there)
 
+    -- links tell the reader who is away, and so all
+    told_of : (effect : Effect) → is_effect_told_of (reader_of other.room other.routes (number s t))
+        effect ≡ true
+    told_of (ChangeUser nick (Away text)) =
+        ap (λ (known : Known). known.about.tells_away) reader.routes
+        ∙ sound.tree.told_away u (sound.tree.known_among u (sound.tree.here_known u reader.here))
+    told_of (ChangeUser nick (Invisible invisible)) = refl
+    told_of other_effect = refl
+
     pub can_be_read : IsReadable view.room view.routes
         (reader_of other.room other.routes (number s t)) effect
     can_be_read = record {
@@ -294,6 +304,7 @@ module _ (s : ItemSetting) (fixed : IsItemSetting s) (t u : Name) (w : of_side.S
       users_known =
           all_known (needs_users effect) ∙ users_there s t u w other takes reader effect doable;
       doer_far = doer_far;
+      told_of = told_of effect;
     }
 
   -- ---- a user who comes
@@ -368,8 +379,8 @@ module _ (s : ItemSetting) (fixed : IsItemSetting s) (t u : Name) (w : of_side.S
 
     introduced : (user : User) → user.home ≡ home → IsSendable w.hall.room (AddUser user)
         → IsIntroduced view.routes (reader_of other.room other.routes (number s t)) user
-    introduced user is within = record {
-      within = within;
+    introduced user is sent = record {
+      within = sent.within;
       number_some = subst (λ h. 1 ≤ written_token view.routes h) (sym is)
           (subst (λ n. 1 ≤ n) (sym written_is)
           (low_token s w sound t home has_row.row.token writer.here token_is).0);

@@ -149,6 +149,7 @@ module _ (names : List Name) (info : Name → List ℕ) (tree : Tree) (l : Link)
     rows = rows_now;
     numbered = sound.numbered;
     named = sound.named;
+    told_away = sound.told_away;
     low = sound.low;
     tokens = tokens_now;
   }

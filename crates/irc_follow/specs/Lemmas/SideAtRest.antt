@@ -7,6 +7,7 @@ use Rattle.irc_relay.specs.Links.{Name, same, Link, part, joined, toward, AreJoi
 use Rattle.irc_relay.specs.Lemmas.TellingNames.{Telling, alike, unlike, tell}
 use Rattle.irc_relay.specs.Lemmas.NextHops.{next_hop}
 use Rattle.irc_relay.specs.Lemmas.LinkTakenOut.{tests_tell}
+use Rattle.irc_routes.specs.About.{About}
 use Rattle.irc_world.specs.ClientsUsers.{HaveOneHome}
 use Rattle.irc_world.specs.World.{World, home_in}
 use Rattle.irc_world.specs.WorldHolds.{IsWorld}
@@ -52,6 +53,8 @@ side_at_rest_is_sound s world routes server fixed of holds right among = record 
         (joined_alike world.links x t server (joined_so world.links t server here));
     numbered = right.numbered;
     named = right.named;
+    told_away = λ t among.
+        ap (λ (about : About). about.tells_away) (right.about t among) ∙ fixed.told_away t among;
     low = λ t x r here. right.low t x r (there t here);
     tokens = λ t u x r here. right.tokens t u x r (there u here);
   };

@@ -272,6 +272,11 @@ module _ (names : List Name) (info : Name → List ℕ) (servers : AreServers na
     named_now t among = by_moment (λ (known : Known). known.name ≡ t) t
         (λ here. sound.named t among) (λ away. sound.named t among)
 
+    told_now : (t : Name) → IsAmong names t
+        → (gained_at names tree uplink name words t).about.tells_away ≡ true
+    told_now t among = by_moment (λ (known : Known). known.about.tells_away ≡ true) t
+        (λ here. sound.told_away t among) (λ away. sound.told_away t among)
+
     -- ---- one number at both ends
 
     token_told : (t q : Name) → same_fold q name ≡ false
@@ -347,6 +352,7 @@ module _ (names : List Name) (info : Name → List ℕ) (servers : AreServers na
       rows = rows_now;
       numbered = numbered_now;
       named = named_now;
+      told_away = told_now;
       low = low_now;
       tokens = tokens_now;
     }

@@ -107,6 +107,8 @@ module _ (names : List Name) (info : Name → List ℕ) (tree : Tree)
         (sound.numbered t among)) (sound.numbered t among);
     named = λ t among. by_moment (λ (known : Known). known.name ≡ t) t (sound.named t among)
         (sound.named t among);
+    told_away = λ t among. by_moment (λ (known : Known). known.about.tells_away ≡ true) t
+        (sound.told_away t among) (sound.told_away t among);
     low = λ t x r here there. low_left t x r here there;
     tokens = tokens_now;
   }

@@ -17,8 +17,9 @@ use Rattle.irc_names.specs.Names.{IsNick, IsServer, is_nick, is_server}
 use Rattle.irc_names.specs.Tables.{Table, row}
 use Rattle.irc_users.specs.declared.user.User.{User}
 use Rattle.irc_room.specs.effect.Effect.TheVariants.{AddUser}
-use Rattle.irc_room.specs.Limits.{IsUserWithin, IsWithinLimits}
+use Rattle.irc_room.specs.Limits.{IsWithinLimits}
 use Rattle.irc_room.specs.Room.{Room}
+use Rattle.irc_room.specs.Sendable.{IsSentUser}
 use Rattle.irc_room.specs.Lemmas.AlikeLaw.{home_is_alike}
 use Rattle.irc_merge.specs.Deeds.{does, kills}
 use Rattle.irc_relay.specs.Distances.{IsAmong}
@@ -114,7 +115,7 @@ module _ (s : ItemSetting) (b t : Name) (w : SideState) (view : View)
 
   -- a user of b's side
   module _ (user : User) (on_side : AreJoined links b user.home)
-      (home_known : w.tree.knows user.home ≡ true) (within : IsUserWithin user) (holder : User)
+      (home_known : w.tree.knows user.home ≡ true) (sent : IsSentUser user) (holder : User)
       (taken : row w.hall.room.users (key user.nick) ≡ Some holder) where
     taken_here : row view.room.users (key user.nick) ≡ Some holder
     taken_here = ap (λ (users : Table User). row users (key user.nick))
@@ -141,9 +142,9 @@ module _ (s : ItemSetting) (b t : Name) (w : SideState) (view : View)
         back : IsReadBack their_room (routes b) view.room view.routes (number s b) (AddUser user)
         back =
             read_back their_room (routes b) view.room view.routes (number s b) (AddUser user)
-            (user_readable s b t w view is l links routes new user on_side home_known within
+            (user_readable s b t w view is l links routes new user on_side home_known sent
             their_room room_within)
-            (user_agrees s b t w view is l links routes new user on_side home_known within)
+            (user_agrees s b t w view is l links routes new user on_side home_known sent.within)
 
 -- ---- the KILL that goes back
 

@@ -26,7 +26,7 @@ use Rattle.irc_room.specs.Limits.{IsUserWithin, IsWithinLimits}
 use Rattle.irc_room.specs.OtherInvitations.{AreAlike}
 use Rattle.irc_room.specs.Readers.{home_under}
 use Rattle.irc_room.specs.Room.{Room}
-use Rattle.irc_room.specs.Sendable.{IsStoredNick}
+use Rattle.irc_room.specs.Sendable.{IsSentUser, IsStoredNick}
 use Rattle.irc_room.specs.Lemmas.AlikeLaw.{alike_have_alike, alike_stay_alike, alike_take_alike}
 use Rattle.irc_merge.specs.AsideInvitations.{AreReadAlike}
 use Rattle.irc_merge.specs.BurstRead.{some_far, brought, new_members}
@@ -147,7 +147,7 @@ module _ (laws : IsKnownOfLines) (s : ItemSetting) (b t : Name) (w : SideState) 
   b_behind : is_behind_link view.routes (number s b) b ≡ true
   b_behind = far_is_behind b is.known is.far
 
-  rooms : AreAlike view.room w.hall.room
+  pub rooms : AreAlike view.room w.hall.room
   rooms = rooms_alike s b t w view is.takes fits
 
   -- it reads as the whole room would
@@ -155,14 +155,14 @@ module _ (laws : IsKnownOfLines) (s : ItemSetting) (b t : Name) (w : SideState) 
   read_alike = alike_read_alike alike_stay_alike alike_take_alike alike_have_alike b far view.room
       w.hall.room rooms
 
-  heard_so : (parts : Written) (told : List Told) → IsPlain parts → IsWhole parts
+  pub heard_so : (parts : Written) (told : List Told) → IsPlain parts → IsWhole parts
       → deeds_meant view.room view.routes (number s b) (message_of parts) ≡ Ok told
       → heard view (number s b) met.end (read_of (line_text parts)) ≡ tells told
   heard_so parts told plain whole meant =
       line_heard laws.written laws.alone view (number s b) met.end parts plain whole
       (ap is_some met.named) ∙ ap of_met meant
 
-  stands_aside : (line : List ℕ) → IsLine line
+  pub stands_aside : (line : List ℕ) → IsLine line
       → heard view (number s b) met.end (read_of line) ≡ tells [] → Aside s b t w view line
   stands_aside line is_line silent = record {
     is_line = is_line;
@@ -391,7 +391,7 @@ module _ (laws : IsKnownOfLines) (s : ItemSetting) (b t : Name) (w : SideState) 
 
   -- ---- a user
 
-  module _ (user : User) (within : IsUserWithin user) (free : row w.hall.room.users (key user.nick)
+  module _ (user : User) (sent : IsSentUser user) (free : row w.hall.room.users (key user.nick)
       ≡ None) (home_known : w.tree.knows user.home ≡ true)
       (home_far : IsFar s w user.home) where
     comes : IsDoableEffect s w (AddUser user)
@@ -402,7 +402,7 @@ module _ (laws : IsKnownOfLines) (s : ItemSetting) (b t : Name) (w : SideState) 
         nick_free = ap (λ o. not (is_some o)) free;
       };
       busy = refl;
-      sendable = within;
+      sendable = sent;
       doer_far = λ nick home doer. cc doer;
       comes = record { known = home_known; far = home_far };
       everybody = λ homes told. cc told;
@@ -583,16 +583,16 @@ module _ (s : ItemSetting) (b t : Name) (w : SideState) (view : View)
         ∙ distance_at s w is.fits.sound t home is.fits.here home_known)) (sym distance_is);
   }
 
-  pub user_readable : IsUserWithin user → (their_room : Room) → IsWithinLimits their_room
+  pub user_readable : IsSentUser user → (their_room : Room) → IsWithinLimits their_room
       → IsReadable their_room (routes b) (reader_of view.room view.routes (number s b))
       (AddUser user)
-  user_readable within their_room room_within =
-      record { room_within = room_within; sendable = within; users_known = refl; doer_far = tt }
+  user_readable sent their_room room_within =
+      record { room_within = room_within; sendable = sent; users_known = refl; doer_far = tt }
 
-  pub new_user_said : IsKnownOfLines → EachIsReadBack → IsUserWithin user → row w.hall.room.users
+  pub new_user_said : IsKnownOfLines → EachIsReadBack → IsSentUser user → row w.hall.room.users
       (key user.nick) ≡ None → (their_room : Room) → IsWithinLimits their_room → Says s b t w view
       (does (AddUser user)) (line_text (wire their_room (routes b) (AddUser user)))
-  new_user_said laws read_back within free their_room room_within =
-      user_said laws s b t w view is user within free home_known home_is_far read_back their_room
-      (routes b) (user_readable within their_room room_within)
-      (user_agrees within)
+  new_user_said laws read_back sent free their_room room_within =
+      user_said laws s b t w view is user sent free home_known home_is_far read_back their_room
+      (routes b) (user_readable sent their_room room_within)
+      (user_agrees sent.within)

@@ -3,7 +3,7 @@
 -- the burst.
 use Rattle.std.proofs.Common.{◌≡◌, ℕ, ◌≤◌, Bool, true, false, cond, ◌⊎◌, inl, inr, Option, Some}
 use Rattle.std.proofs.Common.{None, List, [], ◌∷◌, ◌++◌, length, refl, sym, ◌∙◌, ap, subst, is_some}
-use Rattle.std.proofs.Common.{option_map, arith}
+use Rattle.std.proofs.Common.{map, option_map, arith}
 use Rattle.std.proofs.lemmas.Bool.{and_parts}
 use Rattle.std.proofs.lemmas.List.{append-nil, length-append}
 use Rattle.std.specs.Bool.{⊤}
@@ -11,34 +11,42 @@ use Rattle.std.specs.FinMap.{entries, entries_sorted, values, find, is_sorted}
 use Rattle.std.specs.List.{flat_map, AllByRecursion}
 use Rattle.std.specs.Option.{option_map_or}
 use Rattle.std.proofs.Math.Bool.{false≢true}
-use Rattle.std.proofs.lemmas.Option.{none-some}
+use Rattle.std.proofs.lemmas.Option.{none-some, same_Some}
 use Rattle.irc_names.specs.Lemmas.PlainFacts.{is_true}
 use Rattle.irc_channels.specs.declared.flags.Flags.{Flags}
 use Rattle.irc_follow.specs.Lemmas.DeedEffects.{members_quiet, sets_quiet, tops_quiet, users_stay}
 use Rattle.irc_merge.specs.Lemmas.DoableDeeds.{deeds_well}
 use Rattle.irc_merge.specs.BurstRead.{introduced, new_members, brought, some_far, read_deed}
 use Rattle.irc_merge.specs.BurstRead.{read_all}
-use Rattle.irc_merge.specs.Bursts.{burst, user_deeds, channel_deeds}
+use Rattle.irc_merge.specs.Bursts.{burst, user_deeds, own_deeds, change_deeds, people_deeds}
+use Rattle.irc_merge.specs.Bursts.{channel_deeds}
+use Rattle.irc_merge.specs.Lemmas.BareUsers.{bare, bare_deeds, bare_sorted, bare_named}
+use Rattle.irc_merge.specs.Lemmas.BareUsers.{introduced_row}
+use Rattle.irc_merge.specs.Lemmas.Reading.{reads, reads-one}
 use Rattle.irc_merge.specs.CanBeDone.{IsOfBurst, LinesCanBeDone}
 use Rattle.irc_merge.specs.Deeds.{Deed, does, kills, brings, sets, tops, member_comes, effects_of}
 use Rattle.irc_merge.specs.Deeds.{after_deed, after_deeds}
 use Rattle.irc_merge.specs.Laws.{AreApart}
 use Rattle.irc_merge.specs.Lemmas.Introducing.{introductions, told_user}
-use Rattle.irc_merge.specs.Lemmas.TableWords.{first_there, above_first}
+use Rattle.irc_merge.specs.Lemmas.TableWords.{above_first, entries_all, first_there}
 use Rattle.irc_modes.specs.declared.modes.ModeChange.{ModeChange}
 use Rattle.irc_names.specs.Fold.{key}
 use Rattle.irc_names.specs.Tables.{fold_cmp, row}
 use Rattle.irc_names.specs.TableLaws.{same_fold, one_fold, row-alter}
 use Rattle.irc_room.specs.After.{after, titled_by}
-use Rattle.irc_room.specs.effect.Effect.TheVariants.{AddUser}
+use Rattle.irc_room.specs.Effects.{has_user}
+use Rattle.irc_room.specs.effect.Effect.TheVariants.{AddUser, ChangeUser}
 use Rattle.irc_room.specs.Lemmas.ViewerLaws.{IsNamed, table_named}
 use Rattle.irc_room.specs.Limits.{IsWithinLimits}
 use Rattle.irc_room.specs.Room.{Room, IsWellFormed}
 use Rattle.irc_room.specs.Sendable.{IsStoredNick}
 use Rattle.irc_users.specs.declared.user.User.{User}
+use Rattle.irc_users.specs.declared.user_change.UserChange.{UserChange}
+use Rattle.irc_users.specs.ChangesTold.{as_introduced, changes_of}
+use Rattle.irc_users.specs.UserTable.{with_change}
 use Rattle.irc_items.proofs.Burst.ChannelLines.{deeds_of_channels, IsOfChannel}
 use Rattle.irc_items.proofs.Burst.Stated.{both_all, burst_is_told}
-use Rattle.irc_items.proofs.Burst.Told.{IsTold, AreTheirs}
+use Rattle.irc_items.proofs.Burst.Told.{IsTold, IsTheirs, IsTheirUser, AreTheirs}
 use Rattle.irc_items.proofs.Link.Sides.{IsReadDeed}
 
 pub record IsToldIn (server : List ℕ) (far : List ℕ → Bool) (other room : Room)
@@ -88,6 +96,8 @@ if_one own false deed so = inl refl
 read_as : (own server : List ℕ) (far : List ℕ → Bool) (other room : Room) (deed : Deed)
     → IsToldIn server far other room deed → IsReadAs own (read_deed own far room deed)
 read_as own server far other room (does (AddUser user)) told = introduced_one own room user
+read_as own server far other room (does (ChangeUser nick change)) told =
+    if_one own (has_user room nick) (does (ChangeUser nick change)) tt
 read_as own server far other room (brings by channel members) told =
     brought_one own by channel (new_members far room channel members)
 read_as own server far other room (sets by channel changes) told =
@@ -101,6 +111,7 @@ read_as own server far other room deed told = absurd told.told
 of_burst : (server : List ℕ) (other : Room) (deed : Deed) → IsTold server other deed
     → IsOfBurst deed
 of_burst server other (does (AddUser user)) told = tt
+of_burst server other (does (ChangeUser nick change)) told = tt
 of_burst server other (brings by channel members) told = tt
 of_burst server other (sets by channel changes) told = tt
 of_burst server other (tops by channel topic) told = tt
@@ -164,23 +175,57 @@ same_theirs far other room now users theirs fold user is away =
     theirs fold user (ap (λ us. row us fold) (sym users) ∙ is) away
 
 user_theirs : (own : List ℕ) (far : List ℕ → Bool) (other room : Room) (user : User)
-    → IsWellFormed room → row other.users (key user.nick) ≡ Some user → AreTheirs far other room
+    → IsWellFormed room → IsTheirUser other user → AreTheirs far other room
     → AreTheirs far other (after_deeds room (introduced own room user))
-user_theirs own far other room user well there theirs q found is away =
+user_theirs own far other room user well they theirs q found is away =
     by_fold (same_fold q (key user.nick)) refl (row room.users (key user.nick))
     (sym (user_row own room user well q) ∙ is)
   where
     by_fold : (b : Bool) → same_fold q (key user.nick) ≡ b → (o : Option User) → cond b
-        (told_user o (Some user)) (row room.users q) ≡ Some found → row other.users q ≡ Some found
-    by_fold true one None at = ap (row other.users) (one_fold q (key user.nick) one) ∙ there ∙ at
+        (told_user o (Some user)) (row room.users q) ≡ Some found → IsTheirs other q found
+    by_fold true one None at = record {
+      their = they.their;
+      there = ap (row other.users) (one_fold q (key user.nick) one) ∙ they.there;
+      same_nick = ap (λ (u : User). u.nick) (sym (same_Some user found at))
+          ∙ ap (λ (u : User). u.nick) (sym they.bare);
+    }
     by_fold true one (Some holder) at = absurd (none-some found at)
     by_fold false two o at = theirs q found at away
+
+-- a change leaves each user its nickname and its home
+change_theirs : (far : List ℕ → Bool) (other room : Room) (b : Bool) (nick : List ℕ)
+    (change : UserChange) → AreTheirs far other room
+    → AreTheirs far other (after_deeds room (cond b (does (ChangeUser nick change) ∷ []) []))
+unfolding after_deed after
+change_theirs far other room false nick change theirs = theirs
+change_theirs far other room true nick change theirs q found is away =
+    by_fold (same_fold q (key nick)) refl (row room.users (key nick)) refl
+    (sym (row-alter (key nick) (option_map (with_change change)) room.users q) ∙ is)
+  where
+    by_fold : (b : Bool) → same_fold q (key nick) ≡ b → (o : Option User)
+        → row room.users (key nick) ≡ o
+        → cond b (option_map (with_change change) o) (row room.users q) ≡ Some found
+        → IsTheirs other q found
+    by_fold true one None at none = absurd (none-some found none)
+    by_fold true one (Some user) at some =
+        let made : with_change change user ≡ found =
+        same_Some (with_change change user) found some in
+        let they = theirs (key nick) user at
+        (ap (λ (u : User). far u.home) made ∙ away) in
+        record {
+          their = they.their;
+          there = ap (row other.users) (one_fold q (key nick) one) ∙ they.there;
+          same_nick = ap (λ (u : User). u.nick) (sym made) ∙ they.same_nick;
+        }
+    by_fold false two o at there = theirs q found there away
 
 pub read_theirs : (own server : List ℕ) (far : List ℕ → Bool)
     (other room : Room) (deed : Deed) → IsToldIn server far other room deed
     → AreTheirs far other (after_deeds room (read_deed own far room deed))
 read_theirs own server far other room (does (AddUser user)) told =
-    user_theirs own far other room user told.well told.told.there told.theirs
+    user_theirs own far other room user told.well told.told told.theirs
+read_theirs own server far other room (does (ChangeUser nick change)) told =
+    change_theirs far other room (has_user room nick) nick change told.theirs
 read_theirs own server far other room (brings by channel members) told =
     same_theirs far other room
     (after_deeds room (brought by channel (new_members far room channel members)))
@@ -284,25 +329,28 @@ held_by own server far other room user holder told at =
       same_key = same;
     }
 
--- whoever holds that nickname held it at the start
-abbrev pub IsHeldFirst : Room → Room → Deed → Type 0
-IsHeldFirst start room (does (AddUser user)) =
+-- whoever holds that nickname held it at the start, and whoever has one of which a change is told
+-- is behind the link
+abbrev pub IsHeldFirst : (List ℕ → Bool) → Room → Room → Deed → Type 0
+IsHeldFirst far start room (does (AddUser user)) =
     (holder : User) → row room.users (key user.nick) ≡ Some holder
     → row start.users (key user.nick) ≡ Some holder
-IsHeldFirst start room deed = ⊤
+IsHeldFirst far start room (does (ChangeUser nick change)) =
+    (holder : User) → row room.users (key nick) ≡ Some holder → far holder.home ≡ true
+IsHeldFirst far start room deed = ⊤
 
 -- so of each of some lines, in the room that those before it have left
 abbrev pub AreHeldFirst : List ℕ → (List ℕ → Bool) → Room → Room → List Deed → Type 0
 AreHeldFirst own far start room [] = ⊤
 AreHeldFirst own far start room (deed ∷ deeds) =
-    IsHeldFirst start room deed
+    IsHeldFirst far start room deed
     × AreHeldFirst own far start (after_deeds room (read_deed own far room deed)) deeds
 
 -- ---- users come in folded order, each once
 
 module _ (own : List ℕ) (far : List ℕ → Bool) (start : Room) where
-  held_so : (room : Room) (deed : Deed) → IsOfChannel deed → IsHeldFirst start room deed
-  held_so room (does (AddUser user)) nobody = absurd nobody
+  held_so : (room : Room) (deed : Deed) → IsOfChannel deed → IsHeldFirst far start room deed
+  held_so room (does effect) nobody = absurd nobody
   held_so room deed nobody = tt
 
   others_held : (deeds : List Deed) → AllByRecursion IsOfChannel deeds → (room : Room)
@@ -313,11 +361,85 @@ module _ (own : List ℕ) (far : List ℕ → Bool) (start : Room) where
     others_held deeds nobody.1 (after_deeds room (read_deed own far room deed)),
   )
 
-  both_held : (a b : List Deed) → AllByRecursion IsOfChannel b → (room : Room)
-      → AreHeldFirst own far start room a → AreHeldFirst own far start room (a ++ b)
-  both_held [] b nobody room held = others_held b nobody room
-  both_held (deed ∷ a) b nobody room held =
-      (held.0, both_held a b nobody (after_deeds room (read_deed own far room deed)) held.1)
+  both_held : (a b : List Deed) (room : Room) → AreHeldFirst own far start room a
+      → AreHeldFirst own far start (reads own far room a) b
+      → AreHeldFirst own far start room (a ++ b)
+  both_held [] b room first second = second
+  both_held (deed ∷ a) b room first second = (
+    first.0,
+    both_held a b (after_deeds room (read_deed own far room deed)) first.1
+        (subst (λ r. AreHeldFirst own far start r b) (reads-one own far room deed a) second),
+  )
+
+  -- whoever is there under a fold is behind the link, and stays so
+  abbrev IsFarRow : Room → List ℕ → Type 0
+  IsFarRow room fold = (holder : User) → row room.users fold ≡ Some holder → far holder.home ≡ true
+
+  far_stays : (room : Room) (nick : List ℕ) (change : UserChange) (fold : List ℕ)
+      → IsFarRow room fold
+      → IsFarRow (after_deeds room (read_deed own far room (does (ChangeUser nick change)))) fold
+  unfolding after_deed after
+  far_stays room nick change fold is = by (has_user room nick)
+    where
+      by_fold : (b : Bool) → same_fold fold (key nick) ≡ b → (o : Option User)
+          → row room.users (key nick) ≡ o → (holder : User)
+          → cond b (option_map (with_change change) o) (row room.users fold) ≡ Some holder
+          → far holder.home ≡ true
+      by_fold true one None at holder none = absurd (none-some holder none)
+      by_fold true one (Some user) at holder some =
+          ap (λ (u : User). far u.home) (sym (same_Some (with_change change user) holder some))
+          ∙ is user (ap (row room.users) (one_fold fold (key nick) one) ∙ at)
+      by_fold false two o at holder there = is holder there
+
+      by : (b : Bool)
+          → IsFarRow (after_deeds room (cond b (does (ChangeUser nick change) ∷ []) [])) fold
+      by false = is
+      by true = λ holder at. by_fold (same_fold fold (key nick)) refl (row room.users (key nick))
+          refl holder
+          (sym (row-alter (key nick) (option_map (with_change change)) room.users fold) ∙ at)
+
+  own_stays : (nick : List ℕ) (changes : List UserChange) (room : Room) (fold : List ℕ)
+      → IsFarRow room fold
+      → IsFarRow (reads own far room (map (λ change. does (ChangeUser nick change)) changes)) fold
+  own_stays nick [] room fold is = is
+  own_stays nick (change ∷ changes) room fold is =
+      let later = map (λ change. does (ChangeUser nick change)) changes in
+      subst (λ r. IsFarRow r fold)
+      (sym (reads-one own far room (does (ChangeUser nick change)) later))
+      (own_stays nick changes
+      (after_deeds room (read_deed own far room (does (ChangeUser nick change)))) fold
+      (far_stays room nick change fold is))
+
+  own_held : (nick : List ℕ) (changes : List UserChange) (room : Room) → IsFarRow room (key nick)
+      → AreHeldFirst own far start room (map (λ change. does (ChangeUser nick change)) changes)
+  own_held nick [] room is = tt
+  own_held nick (change ∷ changes) room is = (
+    is,
+    own_held nick changes
+        (after_deeds room (read_deed own far room (does (ChangeUser nick change))))
+        (far_stays room nick change (key nick) is),
+  )
+
+  all_stay : (nick : List ℕ) (changes : List UserChange) (room : Room) (users : List User)
+      → AllByRecursion (λ (user : User). IsFarRow room (key user.nick)) users
+      → AllByRecursion (λ (user : User). IsFarRow
+      (reads own far room (map (λ change. does (ChangeUser nick change)) changes)) (key user.nick))
+      users
+  all_stay nick changes room [] all = tt
+  all_stay nick changes room (user ∷ users) all = (
+    own_stays nick changes room (key user.nick) all.0,
+    all_stay nick changes room users all.1,
+  )
+
+  changes_held : (users : List User) (room : Room)
+      → AllByRecursion (λ (user : User). IsFarRow room (key user.nick)) users
+      → AreHeldFirst own far start room (flat_map own_deeds users)
+  changes_held [] room all = tt
+  changes_held (user ∷ users) room all =
+      both_held (own_deeds user) (flat_map own_deeds users) room
+      (own_held user.nick (changes_of user) room all.0)
+      (changes_held users (reads own far room (own_deeds user))
+      (all_stay user.nick (changes_of user) room users all.1))
 
   -- what was held of the nicknames that are still to come is held
   users_held : LinesCanBeDone → (es : List (List ℕ × User)) → is_sorted fold_cmp es ≡ true
@@ -343,13 +465,60 @@ module _ (own : List ℕ) (far : List ℕ → Bool) (start : Room) where
             ∙ still q (ap (λ b. is_some (cond b (Some e.1) (find fold_cmp q es))) apart ∙ there)),
       )
 
+values_all : {X : Type 0} (P : X → Type 0) (es : List (List ℕ × X))
+    → AllByRecursion (λ e. P e.1) es → AllByRecursion P (map (λ e. e.1) es)
+values_all P [] all = tt
+values_all P (e ∷ es) all = (all.0, values_all P es all.1)
+
+-- who was introduced is there, behind the link, or nobody is
+introduced_far : (own : List ℕ) (far : List ℕ → Bool) (room other : Room) → IsWellFormed room
+    → IsWellFormed other → AreApart far room other
+    → AllByRecursion (λ (user : User). (holder : User)
+    → row (reads own far room (user_deeds other)).users (key user.nick) ≡ Some holder
+    → far holder.home ≡ true) (values other.users)
+introduced_far own far room other well well_other apart =
+    values_all (λ (user : User). (holder : User)
+    → row (reads own far room (user_deeds other)).users (key user.nick) ≡ Some holder
+    → far holder.home ≡ true) (entries other.users)
+    (entries_all (λ fold user. (holder : User)
+    → row (reads own far room (user_deeds other)).users (key user.nick) ≡ Some holder
+    → far holder.home ≡ true) (entries other.users) each (is_true _ (entries_sorted other.users)))
+  where
+    by_rows : (user : User) → far user.home ≡ true → (o : Option User) (holder : User)
+        → told_user o (Some (as_introduced user)) ≡ Some holder → far holder.home ≡ true
+    by_rows user away None holder is =
+        ap (λ (u : User). far u.home) (sym (same_Some (as_introduced user) holder is)) ∙ away
+    by_rows user away (Some mine) holder is = absurd (none-some holder is)
+
+    each : (fold : List ℕ) (user : User) → find fold_cmp fold (entries other.users) ≡ Some user
+        → (holder : User)
+        → row (reads own far room (user_deeds other)).users (key user.nick) ≡ Some holder
+        → far holder.home ≡ true
+    each fold user found holder is =
+        let at : row other.users fold ≡ Some user = get-entries other.users fold ∙ found in
+        by_rows user (apart.behind fold user at) (row room.users fold) holder
+        (sym (ap (λ o. told_user (row room.users fold) (option_map as_introduced o)) at)
+        ∙ sym (introduced_row own far room other well well_other fold)
+        ∙ ap (row (reads own far room (user_deeds other)).users)
+        (sym (well_other.users_named fold user at))
+        ∙ is)
+
 pub held_first : LinesCanBeDone → (own server : List ℕ) (far : List ℕ → Bool) (room other : Room)
-    → IsWellFormed room → IsWellFormed other → AreHeldFirst own far room room (burst server other)
+    → IsWellFormed room → IsWellFormed other → AreApart far room other
+    → AreHeldFirst own far room room (burst server other)
 unfolding burst
-held_first doable own server far room other well well_other =
-    both_held own far room (user_deeds other)
+held_first doable own server far room other well well_other apart =
+    both_held own far room (people_deeds other)
+    (flat_map (channel_deeds server other.users) (values other.channels)) room
+    (both_held own far room (user_deeds other) (change_deeds other) room
+    (subst (AreHeldFirst own far room room) (sym (bare_deeds (entries other.users)))
+    (users_held own far room doable (bare (entries other.users))
+    (bare_sorted (entries other.users) ∙ is_true _ (entries_sorted other.users))
+    (bare_named (entries other.users) (table_named other.users well_other.users_named)) room well
+    (λ q there. refl)))
+    (changes_held own far room (values other.users) (reads own far room (user_deeds other))
+    (introduced_far own far room other well well_other apart)))
+    (others_held own far room
     (flat_map (channel_deeds server other.users) (values other.channels))
-    (deeds_of_channels server other.users (values other.channels)) room
-    (users_held own far room doable (entries other.users) (is_true _ (entries_sorted other.users))
-    (table_named other.users well_other.users_named) room well
-    (λ q there. refl))
+    (deeds_of_channels server other.users (values other.channels))
+    (reads own far room (people_deeds other)))

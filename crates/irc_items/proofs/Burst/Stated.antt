@@ -11,7 +11,7 @@ use Rattle.std.specs.Cmp.{first_so, second_so}
 use Rattle.std.specs.FinMap.{entries, entries_sorted, values, get-entries}
 use Rattle.std.specs.Int.{div_ceil}
 use Rattle.std.specs.List.{cons_option, flat_map, list_all, AllByRecursion}
-use Rattle.std.specs.Option.{option_map}
+use Rattle.std.specs.Option.{option_map, option_map_or}
 use Rattle.std.specs.Simd.{first_chunks}
 use Rattle.irc_names.specs.Lemmas.PlainFacts.{is_true}
 use Rattle.irc_acts.specs.CarriedWords.{digits_carried, key_carried}
@@ -19,6 +19,7 @@ use Rattle.irc_channels.specs.declared.channel.Channel.{Channel}
 use Rattle.irc_channels.specs.declared.flags.Flags.{Flags}
 use Rattle.irc_line.specs.Carried.{is_carried, IsCarried}
 use Rattle.irc_merge.specs.Bursts.{in_lines, members_a_line, bans_a_line, user_deeds, stored_member}
+use Rattle.irc_merge.specs.Bursts.{own_deeds, change_deeds, people_deeds}
 use Rattle.irc_merge.specs.Bursts.{stored_members, settings_line, topic_line, channel_deeds, burst}
 use Rattle.irc_merge.specs.Deeds.{does, brings, sets, tops}
 use Rattle.irc_merge.specs.Lemmas.TableWords.{entries_all}
@@ -37,11 +38,18 @@ use Rattle.irc_modes.specs.declared.modes.Privacy.{Privacy}
 use Rattle.irc_modes.specs.declared.modes.Privacy.TheVariants.{Public, Private, Secret}
 use Rattle.irc_names.specs.Names.{IsChannel, is_ban_mask, IsKey}
 use Rattle.irc_names.specs.Tables.{row}
-use Rattle.irc_room.specs.effect.Effect.TheVariants.{AddUser}
-use Rattle.irc_room.specs.Limits.{IsBanCarried, IsChannelWithin, IsWithinLimits}
+use Rattle.irc_room.specs.effect.Effect.TheVariants.{AddUser, ChangeUser}
+use Rattle.irc_room.specs.Limits.{IsBanCarried, IsChangeWithin, IsChannelWithin, IsUserWithin}
+use Rattle.irc_room.specs.Limits.{IsWithinLimits}
 use Rattle.irc_room.specs.Room.{Room, IsWellFormed}
 use Rattle.irc_room.specs.Sendable.{IsSentChange}
+use Rattle.irc_names.specs.UserTexts.{IsAway}
 use Rattle.irc_users.specs.declared.user.User.{User}
+use Rattle.irc_users.specs.declared.user_change.UserChange.{UserChange}
+use Rattle.irc_users.specs.declared.user_change.UserChange.TheVariants.{Away}
+use Rattle.irc_users.specs.ChangesTold.{as_introduced, changes_of}
+use Rattle.irc_users.specs.Lemmas.ChangesMeet.{told_unseen}
+use Rattle.irc_users.specs.UserTable.{is_shown}
 use Rattle.irc_items.proofs.Burst.Told.{IsTheirUser, IsTheirMember, AreTheirChanges, IsTheirTopic}
 use Rattle.irc_items.proofs.Burst.Told.{IsTold}
 
@@ -111,17 +119,71 @@ module _ {X : Type 0} (n : ℕ) (P : X → Type 0) where
 -- ---- users
 
 users_stated : (server : List ℕ) (other : Room) (es : List (List ℕ × User))
-    → AllByRecursion (λ e. IsTheirUser other e.1) es
-    → AllByRecursion (IsTold server other) (map (λ user. does (AddUser user)) (map (λ e. e.1) es))
+    → AllByRecursion (λ e. IsTheirUser other (as_introduced e.1)) es
+    → AllByRecursion (IsTold server other)
+    (map (λ user. does (AddUser (as_introduced user))) (map (λ e. e.1) es))
 users_stated server other [] all = tt
 users_stated server other (e ∷ es) all = (all.0, users_stated server other es all.1)
 
-each_user : (other : Room) → IsWellFormed other → IsWithinLimits other
-    → (fold : List ℕ) (user : User) → row other.users fold ≡ Some user → IsTheirUser other user
-each_user other well within fold user is = record {
-  there = ap (row other.users) (well.users_named fold user is) ∙ is;
-  within = within.users fold user is;
+bare_within : (user : User) → IsUserWithin user → IsUserWithin (as_introduced user)
+bare_within user within = record {
+  nick = within.nick;
+  name = within.name;
+  name_some = within.name_some;
+  host = within.host;
+  real_fits = within.real_fits;
+  real_carried = within.real_carried;
+  home = within.home;
+  away = tt;
 }
+
+each_user : (other : Room) → IsWellFormed other → IsWithinLimits other → (fold : List ℕ)
+    (user : User) → row other.users fold ≡ Some user → IsTheirUser other (as_introduced user)
+each_user other well within fold user is = record {
+  their = user;
+  there = ap (row other.users) (well.users_named fold user is) ∙ is;
+  bare = refl;
+  sent = record { within = bare_within user (within.users fold user is); whole = refl };
+}
+
+-- ---- what they have set
+
+set_within : (away : Option (List ℕ)) → IfSome away IsAway
+    → AllByRecursion IsChangeWithin (option_map_or (λ text. Away (Some text) ∷ []) away [])
+set_within None within = tt
+set_within (Some text) within = (within, tt)
+
+-- a user of the other room, found there
+record IsThere (other : Room) (user : User) : Type 0 where
+  there : row other.users (key user.nick) ≡ Some user
+  within : IsUserWithin user
+
+changes_stated : (server : List ℕ) (other : Room) (user : User) → IsThere other user
+    → (changes : List UserChange) → AllByRecursion IsChangeWithin changes
+    → AllByRecursion (λ change. is_shown change ≡ false) changes
+    → AllByRecursion (IsTold server other)
+    (map (λ change. does (ChangeUser user.nick change)) changes)
+changes_stated server other user is [] keep unseen = tt
+changes_stated server other user is (change ∷ changes) keep unseen = (
+  record {
+    their = user;
+    there = is.there;
+    stored = refl;
+    keeps = keep.0;
+    unseen = unseen.0;
+  },
+  changes_stated server other user is changes keep.1 unseen.1,
+)
+
+own_stated : (server : List ℕ) (other : Room) (es : List (List ℕ × User))
+    → AllByRecursion (λ e. IsThere other e.1) es
+    → AllByRecursion (IsTold server other) (flat_map own_deeds (map (λ e. e.1) es))
+own_stated server other [] all = tt
+own_stated server other (e ∷ es) all =
+    both_all (IsTold server other) (own_deeds e.1) (flat_map own_deeds (map (λ e. e.1) es))
+    (changes_stated server other e.1 all.0 (changes_of e.1)
+    (set_within e.1.set.away all.0.within.away) (told_unseen e.1))
+    (own_stated server other es all.1)
 
 -- ---- members
 
@@ -358,8 +420,20 @@ pub users_are_told : (server : List ℕ) (other : Room) → IsWellFormed other �
     → AllByRecursion (IsTold server other) (user_deeds other)
 users_are_told server other well within =
     users_stated server other (entries other.users)
-    (entries_all (λ fold user. IsTheirUser other user) (entries other.users)
+    (entries_all (λ fold user. IsTheirUser other (as_introduced user)) (entries other.users)
     (λ fold user is. each_user other well within fold user (get-entries other.users fold ∙ is))
+    (is_true _ (entries_sorted other.users)))
+
+pub changes_are_told : (server : List ℕ) (other : Room) → IsWellFormed other → IsWithinLimits other
+    → AllByRecursion (IsTold server other) (change_deeds other)
+changes_are_told server other well within =
+    own_stated server other (entries other.users)
+    (entries_all (λ fold user. IsThere other user) (entries other.users)
+    (λ fold user is. let at : row other.users fold ≡ Some user = get-entries other.users fold ∙ is
+    in record {
+      there = ap (row other.users) (well.users_named fold user at) ∙ at;
+      within = within.users fold user at;
+    })
     (is_true _ (entries_sorted other.users)))
 
 pub channels_are_told : (server : List ℕ) (other : Room) → IsWellFormed other
@@ -375,6 +449,8 @@ pub burst_is_told : (server : List ℕ) (other : Room) → IsWellFormed other �
     → AllByRecursion (IsTold server other) (burst server other)
 unfolding burst
 burst_is_told server other well within =
-    both_all (IsTold server other) (user_deeds other)
+    both_all (IsTold server other) (people_deeds other)
     (flat_map (channel_deeds server other.users) (values other.channels))
-    (users_are_told server other well within) (channels_are_told server other well within)
+    (both_all (IsTold server other) (user_deeds other) (change_deeds other)
+    (users_are_told server other well within) (changes_are_told server other well within))
+    (channels_are_told server other well within)

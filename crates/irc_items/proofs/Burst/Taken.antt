@@ -112,9 +112,10 @@ module _ (far : List ℕ → Bool) (other room : Room) where
           → option_map (λ (user : User). user.nick) o ≡ Some member.0
       by_row None at pass = absurd (false≢true pass)
       by_row (Some user) at pass =
-          let found : user ≡ is.user =
-          same_Some user is.user (sym (theirs (key member.0) user at pass) ∙ is.there) in
-          ap (λ (u : User). Some u.nick) found ∙ ap Some is.stored
+          let they = theirs (key member.0) user at pass in
+          let found : they.their ≡ is.user =
+          same_Some they.their is.user (sym they.there ∙ is.there) in
+          ap Some they.same_nick ∙ ap (λ (u : User). Some u.nick) found ∙ ap Some is.stored
 
   coming : (channel : List ℕ) → AreTheirs far other room → (members : List (List ℕ × Flags))
       → AllByRecursion (IsTheirMember other) members → AllByRecursion (λ (m : List ℕ × Flags).

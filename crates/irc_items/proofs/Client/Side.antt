@@ -82,7 +82,12 @@ module _ (side : SideAtRestIsSound) {net base new : Network} {world : World} {h 
   forest = given.holds.sound.forest
 
   pub fixed_here : IsItemSetting s
-  fixed_here = record { servers = f.servers; few = f.few; listed = f.listed }
+  fixed_here = record {
+    servers = f.servers;
+    few = f.few;
+    listed = f.listed;
+    told_away = f.told_away;
+  }
     where
       f : IsItemSetting (setting_of_item net s.streams)
       f = fixed net given.step.sound.set_up s.streams

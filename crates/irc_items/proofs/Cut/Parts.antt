@@ -109,6 +109,7 @@ module _ {s : ItemSetting} {world : World} {routes : Name → Known} {left : Lis
         rows = λ x y here. sound.tree.rows x y (joined_before x here);
         numbered = sound.tree.numbered;
         named = sound.tree.named;
+        told_away = sound.tree.told_away;
         low = λ x y r here. sound.tree.low x y r (joined_before x here);
         tokens = λ x u y r here. sound.tree.tokens x u y r (joined_before u here);
       };

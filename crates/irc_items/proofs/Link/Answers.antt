@@ -87,8 +87,9 @@ module _ (laws : IsKnownOfLines) (known : IsKnownOfSides) {s : ItemSetting} {l :
           (inl (refl, refl))).joined l.near l.far refl refl))
       by (inr (e, f)) = joined_test forest b l.near (ap (part forest) (sym e))
 
-  module _ (user holder : User) (here : row (world.hall t).room.users (key user.nick) ≡ Some holder)
-      (there : row (world.hall b).room.users (key user.nick) ≡ Some user)
+  module _ (user holder their : User)
+      (here : row (world.hall t).room.users (key user.nick) ≡ Some holder)
+      (there : row (world.hall b).room.users (key user.nick) ≡ Some their)
       (same_key : key holder.nick ≡ key user.nick) where
     gone : row both.room.users (key holder.nick) ≡ None
     gone = ap (row both.room.users) same_key ∙ by is.ends

@@ -12,7 +12,7 @@ use Rattle.irc_merge.specs.Deeds.{Deed, does, gains, kills, brings, sets, tops, 
 use Rattle.irc_merge.specs.Deeds.{after_deeds, shown_by}
 use Rattle.irc_relay.specs.Following.{all_done, all_seen}
 use Rattle.irc_relay.specs.Links.{Name, same, toward, distance}
-use Rattle.irc_room.specs.effect.Effect.TheVariants.{AddUser}
+use Rattle.irc_room.specs.effect.Effect.TheVariants.{AddUser, ChangeUser}
 use Rattle.irc_room.specs.Room.{Room}
 use Rattle.irc_routes.specs.Known.{Known, is_itself, is_known, row_of, smallest_free, token_out}
 use Rattle.irc_routes.specs.declared.server_row.ServerRow.{ServerRow}
@@ -191,6 +191,7 @@ pub read_deed_done : (s : ItemSetting) (own : Name) (deed : Deed) (w : SideState
     → IsReadDeed own deed → done s w deed ≡ in_hall (hall_left (deed ∷ []) w.hall) w
 unfolding done after_deed
 read_deed_done s own (does (AddUser user)) w read = refl
+read_deed_done s own (does (ChangeUser nick change)) w read = refl
 read_deed_done s own (brings server channel members) w read = refl
 read_deed_done s own (sets server channel changes) w read = refl
 read_deed_done s own (tops server channel topic) w read = refl

@@ -8,12 +8,14 @@ use Rattle.std.proofs.lemmas.Bool.{and_parts}
 use Rattle.std.specs.FinMap.{get, entries, entries_sorted, values, find, is_sorted, get-entries}
 use Rattle.std.specs.FinMap.Entries.{below_all}
 use Rattle.std.specs.List.{flat_map, AllByRecursion}
-use Rattle.std.specs.Option.{option_and_then, option_map_or}
-use Rattle.irc_names.specs.Lemmas.PlainFacts.{is_true}
+use Rattle.std.specs.Option.{option_and_then, option_map, option_map_or}
+use Rattle.irc_names.specs.Lemmas.PlainFacts.{is_some-map, is_true}
 use Rattle.irc_channels.specs.declared.flags.Flags.{Flags}
 use Rattle.irc_merge.specs.BurstRead.{introduced, new_members, brought, some_far, read_deed}
 use Rattle.irc_merge.specs.BurstRead.{read_all}
-use Rattle.irc_merge.specs.Bursts.{burst, channel_deeds}
+use Rattle.irc_merge.specs.Bursts.{burst, user_deeds, change_deeds, channel_deeds}
+use Rattle.irc_merge.specs.Lemmas.BareUsers.{bare, bare_deeds, bare_find, bare_named}
+use Rattle.irc_merge.specs.Lemmas.BareUsers.{bare_sorted}
 use Rattle.irc_merge.specs.Deeds.{Deed, does, kills, brings, sets, tops, titled, effects_of}
 use Rattle.irc_merge.specs.Deeds.{after_deed, after_deeds, shown_by, shown_by_all}
 use Rattle.irc_merge.specs.Lemmas.Introducing.{met, met_by, is_met, met_well, introductions}
@@ -29,8 +31,8 @@ use Rattle.irc_relay.specs.Following.{all_seen}
 use Rattle.irc_relay.specs.Links.{Name}
 use Rattle.irc_room.specs.After.{after}
 use Rattle.irc_room.specs.effect.Effect.{Effect}
-use Rattle.irc_room.specs.effect.Effect.TheVariants.{AddUser, Quit}
-use Rattle.irc_room.specs.Effects.{is_idle}
+use Rattle.irc_room.specs.effect.Effect.TheVariants.{AddUser, Quit, ChangeUser}
+use Rattle.irc_room.specs.Effects.{has_user, is_idle}
 use Rattle.irc_room.specs.Lemmas.ViewerLaws.{IsNamed, table_named}
 use Rattle.irc_room.specs.Room.{Room, IsWellFormed}
 use Rattle.irc_room.specs.Viewers.{line_for, shows_to}
@@ -42,13 +44,17 @@ use Rattle.irc_stage.specs.Handle.{is_client}
 use Rattle.irc_stage.specs.Lemmas.Counting.{get-kept}
 use Rattle.irc_stage.specs.RoomMachine.{Clients}
 use Rattle.irc_users.specs.declared.user.User.{User}
+use Rattle.irc_users.specs.declared.user_change.UserChange.{UserChange}
+use Rattle.irc_users.specs.ChangesTold.{as_introduced}
+use Rattle.irc_users.specs.UserTable.{with_change}
 use Rattle.irc_follow.specs.SideState.{ItemSetting, SideState, client_sees, done, is_home_of}
 use Rattle.irc_follow.specs.SideState.{told_end}
 use Rattle.irc_follow.specs.Says.{play}
 use Rattle.irc_follow.specs.Lemmas.DeedEffects.{AllQuiet, members_quiet, sets_quiet, tops_quiet}
 use Rattle.irc_follow.specs.Lemmas.DeedEffects.{users_stay}
 use Rattle.irc_follow.specs.Lemmas.EffectsOnSide.{same_folds}
-use Rattle.irc_items.proofs.Burst.ChannelLines.{deeds_of_channels, IsOfChannel}
+use Rattle.irc_items.proofs.Burst.ChannelLines.{deeds_of_changes, deeds_of_channels}
+use Rattle.irc_items.proofs.Burst.ChannelLines.{all_behind, StandsBehind}
 use Rattle.irc_items.proofs.Burst.Stated.{both_all}
 use Rattle.irc_items.proofs.Link.Gains.{clients_left, clients_spared, hall_left, in_hall}
 use Rattle.irc_items.proofs.Link.Gains.{read_deed_done}
@@ -213,21 +219,23 @@ unseen_along viewer (effect ∷ effects) quiet room none = λ i.
     ++ unseen_along viewer effects quiet.1 (after room effect)
     (ap (λ us. row us (key viewer)) (users_stay room (effect ∷ []) (quiet.0, tt)) ∙ none) i
 
--- ---- lines about channels
+-- ---- lines behind introductions
 
 brought_of_channel : (server channel : List ℕ) (members : List (List ℕ × Flags))
-    → AllByRecursion IsOfChannel (brought server channel members)
+    → AllByRecursion StandsBehind (brought server channel members)
 brought_of_channel server channel [] = tt
 brought_of_channel server channel (member ∷ members) = (tt, tt)
 
-if_of_channel : (b : Bool) (deed : Deed) → IsOfChannel deed
-    → AllByRecursion IsOfChannel (cond b (deed ∷ []) [])
+if_of_channel : (b : Bool) (deed : Deed) → StandsBehind deed
+    → AllByRecursion StandsBehind (cond b (deed ∷ []) [])
 if_of_channel true deed is = (is, tt)
 if_of_channel false deed is = tt
 
 -- what is read of them are such lines
 read_of_channel : (own : List ℕ) (far : List ℕ → Bool) (room : Room) (deed : Deed)
-    → IsOfChannel deed → AllByRecursion IsOfChannel (read_deed own far room deed)
+    → StandsBehind deed → AllByRecursion StandsBehind (read_deed own far room deed)
+read_of_channel own far room (does (ChangeUser nick change)) is =
+    if_of_channel (has_user room nick) (does (ChangeUser nick change)) tt
 read_of_channel own far room (brings server channel members) is =
     brought_of_channel server channel (new_members far room channel members)
 read_of_channel own far room (sets server channel changes) is =
@@ -237,52 +245,86 @@ read_of_channel own far room (tops server channel topic) is =
 read_of_channel own far room deed is = absurd is
 
 all_of_channel : (own : List ℕ) (far : List ℕ → Bool) (deeds : List Deed)
-    → AllByRecursion IsOfChannel deeds → (room : Room)
-    → AllByRecursion IsOfChannel (read_all own far room deeds)
+    → AllByRecursion StandsBehind deeds → (room : Room)
+    → AllByRecursion StandsBehind (read_all own far room deeds)
 all_of_channel own far [] all room = tt
 all_of_channel own far (deed ∷ deeds) all room =
-    both_all IsOfChannel (read_deed own far room deed)
+    both_all StandsBehind (read_deed own far room deed)
     (read_all own far (after_deeds room (read_deed own far room deed)) deeds)
     (read_of_channel own far room deed all.0)
     (all_of_channel own far deeds all.1 (after_deeds room (read_deed own far room deed)))
 
 -- nobody is killed by one, and no user comes
-kills_nobody : (deed : Deed) (nick : List ℕ) → IsOfChannel deed → is_killed deed nick ≡ false
+kills_nobody : (deed : Deed) (nick : List ℕ) → StandsBehind deed → is_killed deed nick ≡ false
+kills_nobody (does (ChangeUser who change)) nick is = refl
 kills_nobody (brings server channel members) nick is = refl
 kills_nobody (sets server channel changes) nick is = refl
 kills_nobody (tops server channel topic) nick is = refl
 kills_nobody deed nick is = absurd is
 
-all_spared : (deeds : List Deed) → AllByRecursion IsOfChannel deeds → (room : Room) (nick : List ℕ)
+all_spared : (deeds : List Deed) → AllByRecursion StandsBehind deeds → (room : Room) (nick : List ℕ)
     → Fares false room nick deeds
 all_spared [] all room nick = record { seen = refl; left = refl }
 all_spared (deed ∷ deeds) all room nick =
     one_spared false room nick deed deeds (kills_nobody deed nick all.0)
     (all_spared deeds all.1 (after_deed room deed) nick)
 
-quiet_deed : (room : Room) (deed : Deed) → IsOfChannel deed → AllQuiet (effects_of room deed)
-quiet_deed room (brings server channel members) is = members_quiet channel members
-quiet_deed room (sets server channel changes) is = sets_quiet room server channel changes
-quiet_deed room (tops server channel topic) is = tops_quiet room server channel topic
-quiet_deed room deed is = absurd is
+-- Whoever is nobody is shown nothing by one, and stays nobody.
+record IsUnseen (viewer : List ℕ) (room : Room) (deed : Deed) : Type 0 where
+  shows : shown_by viewer room deed ≡ []
+  stays : row (after_deed room deed).users (key viewer) ≡ None
 
-same_users : (room : Room) (deed : Deed) → IsOfChannel deed → (titled room deed).users ≡ room.users
-same_users room (brings server channel members) is = refl
-same_users room (sets server channel changes) is = refl
-same_users room (tops server channel topic) is = refl
-same_users room deed is = absurd is
-
-channels_unseen : (viewer : List ℕ) (deeds : List Deed) → AllByRecursion IsOfChannel deeds
-    → (room : Room) → row room.users (key viewer) ≡ None → shown_by_all viewer room deeds ≡ []
+quiet_unseen : (viewer : List ℕ) (room : Room) (deed : Deed) → AllQuiet (effects_of room deed)
+    → (titled room deed).users ≡ room.users → row room.users (key viewer) ≡ None
+    → IsUnseen viewer room deed
 unfolding shown_by after_deed
+quiet_unseen viewer room deed quiet same none =
+    let nobody = ap (λ us. row us (key viewer)) same ∙ none in
+    record {
+      shows = unseen_along viewer (effects_of room deed) quiet (titled room deed) nobody;
+      stays = ap (λ us. row us (key viewer))
+          (users_stay (titled room deed) (effects_of room deed) quiet) ∙ nobody;
+    }
+
+change_unseen : (viewer : List ℕ) (room : Room) (nick : List ℕ) (change : UserChange)
+    → row room.users (key viewer) ≡ None → IsUnseen viewer room (does (ChangeUser nick change))
+unfolding shown_by after_deed after
+change_unseen viewer room nick change none = record {
+  shows =
+      ap (λ o. option_to_list o ++ []) (nobody_shown room (ChangeUser nick change) viewer none);
+  stays = row-alter (key nick) (option_map (with_change change)) room.users (key viewer)
+      ∙ by (same_fold (key viewer) (key nick)) refl;
+}
+  where
+    by : (b : Bool) → same_fold (key viewer) (key nick) ≡ b
+        → cond b (option_map (with_change change) (row room.users (key nick)))
+        (row room.users (key viewer)) ≡ None
+    by true one =
+        ap (option_map (with_change change))
+        (ap (row room.users) (sym (one_fold (key viewer) (key nick) one)) ∙ none)
+    by false two = none
+
+behind_unseen : (viewer : List ℕ) (room : Room) (deed : Deed) → StandsBehind deed
+    → row room.users (key viewer) ≡ None → IsUnseen viewer room deed
+behind_unseen viewer room (does (ChangeUser nick change)) is none =
+    change_unseen viewer room nick change none
+behind_unseen viewer room (brings server channel members) is none =
+    quiet_unseen viewer room (brings server channel members) (members_quiet channel members) refl
+    none
+behind_unseen viewer room (sets server channel changes) is none =
+    quiet_unseen viewer room (sets server channel changes) (sets_quiet room server channel changes)
+    refl none
+behind_unseen viewer room (tops server channel topic) is none =
+    quiet_unseen viewer room (tops server channel topic) (tops_quiet room server channel topic)
+    refl none
+behind_unseen viewer room deed is none = absurd is
+
+channels_unseen : (viewer : List ℕ) (deeds : List Deed) → AllByRecursion StandsBehind deeds
+    → (room : Room) → row room.users (key viewer) ≡ None → shown_by_all viewer room deeds ≡ []
 channels_unseen viewer [] all room none = refl
 channels_unseen viewer (deed ∷ deeds) all room none =
-    let nobody = ap (λ us. row us (key viewer)) (same_users room deed all.0) ∙ none in
-    λ i. unseen_along viewer (effects_of room deed) (quiet_deed room deed all.0)
-    (titled room deed) nobody i
-    ++ channels_unseen viewer deeds all.1 (after_deed room deed)
-    (ap (λ us. row us (key viewer)) (users_stay (titled room deed) (effects_of room deed)
-    (quiet_deed room deed all.0)) ∙ nobody) i
+    let first = behind_unseen viewer room deed all.0 none in
+    λ i. first.shows i ++ channels_unseen viewer deeds all.1 (after_deed room deed) first.stays i
 
 -- ---- one user is introduced
 
@@ -342,7 +384,7 @@ quit_gone room nick text viewer one =
 -- ---- all of them
 
 module _ (viewer own : List ℕ) (far : List ℕ → Bool) (told : List Deed)
-    (of_channels : AllByRecursion IsOfChannel told) where
+    (of_channels : AllByRecursion StandsBehind told) where
   abbrev read_from : Room → List (List ℕ × User) → List Deed
   read_from room es = read_all own far room (introductions es ++ told)
 
@@ -440,9 +482,26 @@ pub burst_fares : (own server : List ℕ) (far : List ℕ → Bool) (room other 
     (read_all own far room (burst server other))
 unfolding burst
 burst_fares own server far room other well well_other viewer mine at =
-    subst (λ o. Fares (is_some o) room viewer (read_all own far room (burst server other)))
-    (sym (get-entries other.users (key viewer)))
-    (fares_from viewer own far (flat_map (channel_deeds server other.users) (values other.channels))
-    (deeds_of_channels server other.users (values other.channels))
-    (entries other.users) (is_true _ (entries_sorted other.users))
-    (table_named other.users well_other.users_named) room well mine at)
+    subst (λ deeds. Fares (is_some (row other.users (key viewer))) room viewer
+    (read_all own far room deeds))
+    (sym (append_assoc (user_deeds other) (change_deeds other) channels
+    ∙ ap (λ deeds. deeds ++ behind) (bare_deeds es)))
+    (subst (λ found. Fares found room viewer
+    (read_all own far room (introductions (bare es) ++ behind)))
+    (sym (ap is_some (get-entries other.users (key viewer))
+    ∙ sym (ap is_some (bare_find (key viewer) es)
+    ∙ is_some-map as_introduced (find fold_cmp (key viewer) es))))
+    (fares_from viewer own far behind
+    (both_all StandsBehind (change_deeds other) channels (deeds_of_changes (values other.users))
+    (all_behind channels (deeds_of_channels server other.users (values other.channels))))
+    (bare es) (bare_sorted es ∙ is_true _ (entries_sorted other.users))
+    (bare_named es (table_named other.users well_other.users_named)) room well mine at))
+  where
+    es : List (List ℕ × User)
+    es = entries other.users
+
+    channels : List Deed
+    channels = flat_map (channel_deeds server other.users) (values other.channels)
+
+    behind : List Deed
+    behind = change_deeds other ++ channels

@@ -2,18 +2,21 @@
 -- it.
 use Rattle.std.proofs.Common.{◌≡◌, ◌≢◌, ◌⊎◌, inl, inr, ℕ, Bool, true, false, not, ◌&&◌, ◌||◌}
 use Rattle.std.proofs.Common.{Option, Some, None, List, [], ◌∷◌, ◌++◌, map, nat_eq, refl, sym, ◌∙◌}
-use Rattle.std.proofs.Common.{ap, subst, option_map, if◌then◌else◌}
+use Rattle.std.proofs.Common.{ap, cond, subst, option_map, if◌then◌else◌}
 use Rattle.std.proofs.Math.Path.{fun_ext}
 use Rattle.std.proofs.lemmas.Bool.{eq-eqb, eqb-true, or_right}
+use Rattle.std.proofs.lemmas.Option.{same_Some}
 use Rattle.std.specs.Option.{option_map_or}
 use Rattle.std.proofs.Math.Bool.{or-true}
 use Rattle.irc_channels.specs.declared.flags.Flags.{Flags}
 use Rattle.irc_modes.specs.declared.modes.ModeChange.{ModeChange}
 use Rattle.irc_line.specs.Messages.{line_text}
 use Rattle.irc_names.specs.Fold.{key}
-use Rattle.irc_names.specs.Tables.{row}
+use Rattle.irc_names.specs.Tables.{Table, row}
 use Rattle.irc_users.specs.declared.user.User.{User}
-use Rattle.irc_room.specs.effect.Effect.TheVariants.{AddUser}
+use Rattle.irc_users.specs.declared.user_change.UserChange.{UserChange}
+use Rattle.irc_room.specs.effect.Effect.TheVariants.{AddUser, ChangeUser}
+use Rattle.irc_room.specs.Effects.{has_user}
 use Rattle.irc_room.specs.Invitations.{of_home}
 use Rattle.irc_room.specs.Limits.{IsWithinLimits}
 use Rattle.irc_room.specs.Room.{Room}
@@ -23,7 +26,7 @@ use Rattle.irc_burst.specs.DeedsMeant.{as_stored}
 use Rattle.irc_burst_lines.specs.DeedLines.{deed_parts}
 use Rattle.irc_link_reader.specs.Reader.{is_behind_link}
 use Rattle.irc_merge.specs.CanBeDone.{LinesCanBeDone}
-use Rattle.irc_merge.specs.BurstRead.{some_far, brought, new_members, read_all, read_deed}
+use Rattle.irc_merge.specs.BurstRead.{some_far, brought, changed, new_members, read_all, read_deed}
 use Rattle.irc_merge.specs.Bursts.{burst}
 use Rattle.irc_merge.specs.Deeds.{Deed, does, kills, brings, sets, tops, after_deeds}
 use Rattle.irc_relay.specs.Following.{nothing, by_line, aside_line}
@@ -47,8 +50,9 @@ use Rattle.irc_items.proofs.Burst.Lines.{members_aside, members_said, modes_asid
 use Rattle.irc_items.proofs.Burst.Lines.{new_user_said, topic_aside, topic_said, IsBurstReader}
 use Rattle.irc_items.proofs.Burst.Lines.{IsNewNeighbour, KnowsBothSides}
 use Rattle.irc_items.proofs.Burst.Read.{held_by, AreHeldFirst, AreToldIn, IsHeldFirst, IsToldIn}
+use Rattle.irc_items.proofs.Burst.ChangeLines.{change_aside, change_said, IsOnlyTheirs}
 use Rattle.irc_items.proofs.Burst.Taken.{members_come, members_spelled}
-use Rattle.irc_items.proofs.Burst.Told.{AreComing, AreTheirMembers}
+use Rattle.irc_items.proofs.Burst.Told.{AreComing, AreTheirMembers, IsTheirChange}
 use Rattle.irc_items.proofs.Burst.Collisions.{answers_of, user_collides}
 use Rattle.irc_items.proofs.Good.GoodLines.{MayKill}
 use Rattle.irc_items.proofs.Link.Answers.{may_answer}
@@ -296,7 +300,9 @@ module _ (laws : AreRoomLaws) {s : ItemSetting} {l : Link} {world : World} {rout
 
       module _ (user : User) (told : IsToldIn b far their_room room (does (AddUser user))) where
         home_far : joined links user.home b ≡ true
-        home_far = is.holds.homes_joined b (key user.nick) user told.told.there
+        home_far =
+            subst (λ (u : User). joined links u.home b ≡ true) told.told.bare
+            (is.holds.homes_joined b (key user.nick) told.told.their told.told.there)
 
         home_known : knows user.home ≡ true
         home_known = or_right (joined links user.home t) (far user.home) home_far
@@ -312,7 +318,7 @@ module _ (laws : AreRoomLaws) {s : ItemSetting} {l : Link} {world : World} {rout
             (new_user_said s b t (w hall) view reader l links routes new user
             (sym (joined_so links user.home b home_far)) home_known laws.sides.handshakes.lines
             laws.read_back
-            told.told.within free (of_home b their_room) their_limits)
+            told.told.sent free (of_home b their_room) their_limits)
 
         -- the nickname is on both sides
         holder_killed : (holder : User) → row room.users (key user.nick) ≡ Some holder
@@ -320,14 +326,14 @@ module _ (laws : AreRoomLaws) {s : ItemSetting} {l : Link} {world : World} {rout
             → IsReadSo (line_of (does (AddUser user))) (kills t holder.nick ∷ [])
         holder_killed holder taken first =
             read_said (line_of (does (AddUser user))) (kills t holder.nick) refl
-            (λ own. may_answer laws.sides.handshakes.lines laws.sides is user holder first
-            told.told.there
+            (λ own. may_answer laws.sides.handshakes.lines laws.sides is user holder
+            told.told.their first told.told.there
             (held_by t b far their_room room user holder told taken).same_key)
             (user_collides s b t (w hall) view reader l links routes new both_sides user
-            (sym (joined_so links user.home b home_far)) home_known told.told.within holder taken
+            (sym (joined_so links user.home b home_far)) home_known told.told.sent holder taken
             laws.sides.handshakes.lines laws.read_back (of_home b their_room) their_limits)
 
-        user_one : IsHeldFirst (world.hall t).room room (does (AddUser user))
+        user_one : IsHeldFirst far (world.hall t).room room (does (AddUser user))
             → IsReadSo (line_of (does (AddUser user))) (read_deed t far room (does (AddUser user)))
         user_one held = by (row room.users (key user.nick)) refl
           where
@@ -336,6 +342,50 @@ module _ (laws : AreRoomLaws) {s : ItemSetting} {l : Link} {world : World} {rout
                 (λ (holder : User). kills t holder.nick ∷ []) o (does (AddUser user) ∷ []))
             by None free = user_comes free
             by (Some holder) taken = holder_killed holder taken (held holder taken)
+
+      -- what a user has set
+      module _ (nick : List ℕ) (change : UserChange)
+          (told : IsToldIn b far their_room room (does (ChangeUser nick change)))
+          (held : IsHeldFirst far (world.hall t).room room (does (ChangeUser nick change))) where
+        at_home : IsWithinLimits (of_home b their_room)
+        at_home = (alike_keep_limits (of_home b their_room) their_room
+            (home_is_alike b their_room)).1 within_there
+
+        only_theirs : IsOnlyTheirs (is_behind_link view.routes (number s b)) room nick
+        only_theirs = record {
+          behind = λ user at.
+              subst (λ f. f user.home ≡ true) (sym far_is) (held user at);
+          spelled = λ user at.
+              let they = told.theirs (key nick) user at (held user at) in
+              they.same_nick ∙ ap (λ (u : User). u.nick)
+              (same_Some they.their told.told.their (sym they.there ∙ told.told.there))
+              ∙ told.told.stored;
+        }
+
+        home_stored : IsTheirChange (of_home b their_room) nick change
+        home_stored = record {
+          their = told.told.their;
+          there = ap (λ (r : Table User). row r (key nick)) (home_is_alike b their_room).users
+              ∙ told.told.there;
+          stored = told.told.stored;
+          keeps = told.told.keeps;
+          unseen = told.told.unseen;
+        }
+
+        change_one : IsReadSo (line_of (does (ChangeUser nick change)))
+            (changed room nick change)
+        change_one = by (has_user room nick) refl
+          where
+            by : (c : Bool) → has_user room nick ≡ c
+                → IsReadSo (line_of (does (ChangeUser nick change)))
+                (cond c (does (ChangeUser nick change) ∷ []) [])
+            by true there = read_said (line_of (does (ChangeUser nick change)))
+                (does (ChangeUser nick change)) tt tt
+                (change_said laws.sides.handshakes.lines s b t (w hall) view reader
+                (of_home b their_room) (routes b) at_home nick change home_stored only_theirs there)
+            by false none = read_aside (line_of (does (ChangeUser nick change)))
+                (change_aside laws.sides.handshakes.lines s b t (w hall) view reader
+                (of_home b their_room) (routes b) at_home nick change home_stored only_theirs none)
 
       -- whoever is named in a line of b is b
       by_b : (deed_of : List ℕ → Deed) (by : List ℕ) → by ≡ b
@@ -346,9 +396,10 @@ module _ (laws : AreRoomLaws) {s : ItemSetting} {l : Link} {world : World} {rout
           (λ v. IsToldIn b far their_room room (deed_of v)
           → IsReadSo (line_of (deed_of v)) (read_deed t far room (deed_of v))) (sym is)
 
-      told_one : (deed : Deed) → IsToldIn b far their_room room deed → IsHeldFirst
+      told_one : (deed : Deed) → IsToldIn b far their_room room deed → IsHeldFirst far
           (world.hall t).room room deed → IsReadSo (line_of deed) (read_deed t far room deed)
       told_one (does (AddUser user)) told held = user_one user told held
+      told_one (does (ChangeUser nick change)) told held = change_one nick change told held
       told_one (brings by channel members) told held =
           by_b (λ v. brings v channel members) by told.told.0 (members_one channel members) told
       told_one (sets by channel changes) told held =

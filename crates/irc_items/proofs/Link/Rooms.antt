@@ -44,5 +44,5 @@ module _ (doable : LinesCanBeDone) (settings : List Setting) (world : World)
     read = reads_deeds t b (λ home. joined world.links home b) (world.hall b).room
         (world.hall t).room (burst b (world.hall b).room) told;
     held = held_first doable t b (λ home. joined world.links home b) (world.hall t).room
-        (world.hall b).room (holds.sound.well_formed t) (holds.sound.well_formed b);
+        (world.hall b).room (holds.sound.well_formed t) (holds.sound.well_formed b) are_apart;
   }

@@ -5,7 +5,7 @@ use Rattle.irc_merge.specs.Bursts.{burst}
 use Rattle.irc_merge.specs.Deeds.{Deed, does, gains, kills, brings, sets, tops}
 use Rattle.irc_relay.specs.Following.{all_done}
 use Rattle.irc_relay.specs.Links.{Name, Link, joined}
-use Rattle.irc_room.specs.effect.Effect.TheVariants.{AddUser}
+use Rattle.irc_room.specs.effect.Effect.TheVariants.{AddUser, ChangeUser}
 use Rattle.irc_routes.specs.Known.{Known, servers_told}
 use Rattle.irc_routes.specs.declared.server_row.ServerRow.{ServerRow}
 use Rattle.irc_world.specs.World.{World}
@@ -29,6 +29,7 @@ room_deeds world t b =
 -- here
 abbrev pub IsReadDeed : Name → Deed → Type 0
 IsReadDeed own (does (AddUser user)) = ⊤
+IsReadDeed own (does (ChangeUser nick change)) = ⊤
 IsReadDeed own (brings server channel members) = ⊤
 IsReadDeed own (sets server channel changes) = ⊤
 IsReadDeed own (tops server channel topic) = ⊤

@@ -6,7 +6,7 @@ use Rattle.std.specs.FinMap.{get}
 use Rattle.std.specs.List.{slice_get, AllByRecursion}
 use Rattle.std.specs.Option.{option_and_then, option_map, option_map_or}
 use Rattle.irc_names.specs.Names.{IsServer}
-use Rattle.irc_routes.specs.About.{IsAbout}
+use Rattle.irc_routes.specs.About.{About, IsAbout}
 use Rattle.irc_relay.specs.Distances.{IsAmong}
 use Rattle.irc_relay.specs.Links.{Link, Name}
 use Rattle.irc_server.specs.Owed.{lines_to}
@@ -135,6 +135,7 @@ module _ (kept : ServedKeepsItsSetting) (old : Progress Network) (set_up : IsSet
       let same = reply_alike kept view read_event in record {
         name = subst IsServer (sym same.name) was.name;
         about = subst IsAbout (sym same.about) was.about;
+        told_away = ap (λ (about : About). about.tells_away) same.about ∙ was.told_away;
         passwords = subst (AllByRecursion HasPassword) (sym same.peers) was.passwords;
       }
 

@@ -22,7 +22,7 @@ use Rattle.irc_stage.specs.View.{View}
 use Rattle.irc_names.specs.Names.{IsServer}
 use Rattle.irc_world.specs.WithinLimits.{AreNamed}
 use Rattle.irc_world.specs.World.{Setting, is_server, setting_of}
-use Rattle.irc_follow.specs.SideState.{IsItemSetting}
+use Rattle.irc_follow.specs.SideState.{IsItemSetting, about_in}
 use Rattle.irc_follow.specs.Tree.{index_in}
 use Rattle.irc_network.specs.Network.{Network, Node, server_place, node_at, node_of, node_view}
 use Rattle.irc_items.specs.Relayed.{setting_of_item}
@@ -369,11 +369,17 @@ fixed net set_up streams = record {
   servers = record {
     named = λ x among. servers_named net set_up x (listed net set_up x ∙ among);
     described = λ x among.
-        subst (λ (about : About). IsInfo about.info)
-        (sym (ap (λ o. option_map_or (λ (own : Setting). own.about) o says_nothing)
-        (setting_there net set_up x among)))
+        subst (λ (about : About). IsInfo about.info) (sym (says x among))
         (set_up.configured x among).about.info;
   };
   few = set_up.few;
   listed = listed net set_up;
+  told_away = λ x among. ap (λ (about : About). about.tells_away) (says x among)
+      ∙ (set_up.configured x among).told_away;
 }
+  where
+    -- what is said of each is what it says of itself
+    says : (x : Name) → IsAmong net.names x
+        → about_in (settings_of net) x ≡ (view_at net x).routes.about
+    says x among = ap (λ o. option_map_or (λ (own : Setting). own.about) o says_nothing)
+        (setting_there net set_up x among)

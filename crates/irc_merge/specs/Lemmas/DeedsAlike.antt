@@ -2,7 +2,7 @@
 -- room follows them.
 use Rattle.std.proofs.Common.{◌≡◌, ℕ, Bool, true, false, not, ◌&&◌, Option, Some, None, List, []}
 use Rattle.std.proofs.Common.{◌∷◌, ◌++◌, refl, sym, ◌∙◌, ap, subst, option_map, option_to_list}
-use Rattle.std.proofs.Common.{if◌then◌else◌}
+use Rattle.std.proofs.Common.{if◌then◌else◌, is_some}
 use Rattle.std.specs.Prelude.{⊤}
 use Rattle.std.specs.List.{list_any, AllByRecursion, flat_map}
 use Rattle.std.specs.Ordering.{is_lt}
@@ -21,7 +21,7 @@ use Rattle.irc_modes.specs.Raised.{raising}
 use Rattle.irc_room.specs.effect.By.TheVariants as by
 use Rattle.irc_room.specs.effect.Effect.{Effect}
 use Rattle.irc_room.specs.effect.Effect.TheVariants.{AddUser, Quit}
-use Rattle.irc_room.specs.effect.Effect.TheVariants.{ChangeModes, SetTopic, Invite}
+use Rattle.irc_room.specs.effect.Effect.TheVariants.{ChangeModes, SetTopic, Invite, ChangeUser}
 use Rattle.irc_room.specs.Room.{Room, IsWellFormed}
 use Rattle.irc_room.specs.Effects.{IsPossible, brings_free}
 use Rattle.irc_room.specs.After.{after, titled_by}
@@ -170,6 +170,9 @@ module _ (stay : AlikeStayAlike) (take : AlikeTakeAlike) (have : AlikeHaveAlike)
     one_alike : (room other : Room) (deed : Deed) → AreAlikeRooms room other
         → read_deed own far room deed ≡ read_deed own far other deed
     one_alike room other (does (AddUser user)) alike = introduced_alike room other user alike
+    one_alike room other (does (ChangeUser nick change)) alike =
+        ap (λ (users : Table User). if is_some (row users (key nick))
+        then does (ChangeUser nick change) ∷ [] else []) alike.users
     one_alike room other (does effect) alike = refl
     one_alike room other (gains uplink name info) alike = refl
     one_alike room other (loses server name text) alike = refl

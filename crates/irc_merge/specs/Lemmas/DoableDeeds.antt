@@ -10,6 +10,7 @@ use Rattle.irc_names.specs.Fold.{key}
 use Rattle.irc_names.specs.Tables.{row}
 use Rattle.irc_names.specs.TableLaws.{row-alter_same}
 use Rattle.irc_users.specs.declared.user.User.{User}
+use Rattle.irc_users.specs.declared.user_change.UserChange.{UserChange}
 use Rattle.irc_channels.specs.declared.flags.Flags.{Flags}
 use Rattle.irc_modes.specs.declared.modes.ModeChange.{ModeChange}
 use Rattle.irc_modes.specs.declared.modes.ModeLetter.TheVariants as letter
@@ -18,6 +19,7 @@ use Rattle.irc_channels.specs.Channels.{all_changed}
 use Rattle.irc_room.specs.effect.By.TheVariants as by
 use Rattle.irc_room.specs.effect.Effect.{Effect}
 use Rattle.irc_room.specs.effect.Effect.TheVariants.{AddUser, Quit, Join, ChangeModes, SetTopic}
+use Rattle.irc_room.specs.effect.Effect.TheVariants.{ChangeUser}
 use Rattle.irc_room.specs.Room.{Room, IsWellFormed}
 use Rattle.irc_room.specs.Effects.{has_user, has_channel, is_member}
 use Rattle.irc_room.specs.After.{after, titled_by}
@@ -53,6 +55,17 @@ one_there false e = e
 pub quit_does : (room : Room) (nick text : List ℕ) → has_user room nick ≡ true
     → DoesSomething room (Quit nick text)
 quit_does room nick text there = record {
+  possible = record {
+    users_there = one_there (has_user room nick) there;
+    channel_there = refl;
+    nick_free = refl;
+  };
+  busy = refl;
+}
+
+pub own_does : (room : Room) (nick : List ℕ) (change : UserChange) → has_user room nick ≡ true
+    → DoesSomething room (ChangeUser nick change)
+own_does room nick change there = record {
   possible = record {
     users_there = one_there (has_user room nick) there;
     channel_there = refl;

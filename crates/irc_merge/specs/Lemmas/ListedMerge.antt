@@ -13,6 +13,7 @@ use Rattle.irc_names.specs.Fold.{key, same}
 use Rattle.irc_names.specs.Greater.{bytes_cmp, greater}
 use Rattle.irc_names.specs.Tables.{fold_cmp, row}
 use Rattle.irc_users.specs.declared.user.User.{User}
+use Rattle.irc_users.specs.ChangesTold.{as_introduced}
 use Rattle.irc_channels.specs.declared.flags.Flags.{Flags}
 use Rattle.irc_channels.specs.declared.channel.Channel.{Channel}
 use Rattle.irc_channels.specs.Channels.{has_member}
@@ -33,7 +34,7 @@ use Rattle.irc_merge.specs.Quits.{quits_of, collision_text}
 use Rattle.irc_merge.specs.Deeds.{Deed, does, brings, sets}
 use Rattle.irc_modes.specs.ModesSet.{set_changes, ban_changes}
 use Rattle.irc_merge.specs.Bursts.{in_lines, members_a_line, bans_a_line, burst, stored_member}
-use Rattle.irc_merge.specs.Bursts.{settings_line, topic_line, channel_deeds}
+use Rattle.irc_merge.specs.Bursts.{settings_line, topic_line, own_deeds, channel_deeds}
 use Rattle.irc_merge.specs.Merge.{clash, room_without, either, joined_channel, merge}
 use Rattle.irc_merge.specs.MergeShown.{arrival, member_arrival, mode_lines, raised_lines}
 use Rattle.irc_merge.specs.MergeShown.{raised_topic, channel_seen, channel_arrivals, arrivals}
@@ -74,7 +75,9 @@ list_deeds server users c =
     ++ topic_line server c.name c.topic))
 
 abbrev pub list_burst : List ℕ → ListedRoom → List Deed
-list_burst server room = map (λ user. does (AddUser user)) (map (λ e. e.1) room.users)
+list_burst server room =
+    (map (λ user. does (AddUser (as_introduced user))) (map (λ e. e.1) room.users)
+    ++ flat_map own_deeds (map (λ e. e.1) room.users))
     ++ flat_map (λ e. list_deeds server room.users e.1) room.channels
 
 stored_listed : (room : ListedRoom) (es : List (List ℕ × Flags)) → filter_map
@@ -101,7 +104,8 @@ pub burst_listed : (server : List ℕ) (room : ListedRoom) → AreInOrder room
     → burst server (room_of room) ≡ list_burst server room
 unfolding burst
 burst_listed server room order =
-    λ i. map (λ user. does (AddUser user)) (users_listed room order i)
+    λ i. (map (λ user. does (AddUser (as_introduced user))) (users_listed room order i)
+    ++ flat_map own_deeds (users_listed room order i))
     ++ (ap (λ es. flat_map (channel_deeds server (room_of room).users) (map (λ (e : List ℕ
     × Channel). e.1) es)) (entries_listed channel_of room.channels order.channels)
     ∙ deeds_listed server room room.channels order.members) i

@@ -8,7 +8,8 @@ use Rattle.std.proofs.lemmas.Bool.{eqb-true}
 use Rattle.std.specs.Cmp.{first_so, second_so}
 use Rattle.irc_names.specs.Names.{is_nick, is_channel, is_host, is_server, is_key, is_ban_mask}
 use Rattle.irc_names.specs.declared.TheConstants.{MAX_NICK, MAX_CHANNEL, MAX_HOST, MAX_SERVER}
-use Rattle.irc_names.specs.declared.TheConstants.{MAX_KEY, MAX_BAN_MASK}
+use Rattle.irc_names.specs.UserTexts.{is_away}
+use Rattle.irc_names.specs.declared.TheConstants.{MAX_KEY, MAX_BAN_MASK, MAX_WORDS}
 
 -- ---- lengths
 
@@ -38,6 +39,11 @@ pub ban_mask-fits : (bytes : List ℕ) → is_ban_mask bytes ≡ true → length
 unfolding is_ban_mask
 ban_mask-fits bytes h = grind (arith, nat_tests)
 
+pub away-fits : (bytes : List ℕ) → is_away bytes ≡ true → length bytes ≤ MAX_WORDS
+unfolding is_away
+away-fits [] h = grind (arith, nat_tests)
+away-fits (x ∷ xs) h = grind (arith, nat_tests)
+
 -- ---- bytes
 
 either : (letter special alphanumeric dash : Bool) → (letter ≡ true → alphanumeric ≡ true)
@@ -63,4 +69,5 @@ lacks rule byte refused (x ∷ xs) all =
     by false other first rest = cc
 
 -- how long each kind is, for proofs that name this set
-pub ruleset lengths = (nick-fits, channel-fits, host-fits, server-fits, key-fits, ban_mask-fits)
+pub ruleset lengths =
+    (nick-fits, channel-fits, host-fits, server-fits, key-fits, ban_mask-fits, away-fits)

@@ -12,6 +12,8 @@ use Rattle.irc_names.specs.Names.{fits, is_nick, is_host}
 use Rattle.irc_names.specs.Digits.{number_of}
 use Rattle.irc_names.specs.UserTexts.{IsUserName, IsRealName, is_user_byte}
 use Rattle.irc_users.specs.declared.user.User.{User}
+use Rattle.irc_users.specs.ChangesTold.{as_introduced}
+use Rattle.irc_users.specs.UserTable.{nothing_set}
 use Rattle.irc_room.specs.effect.Effect.TheVariants.{AddUser}
 use Rattle.irc_room.specs.Limits.{IsUserWithin}
 use Rattle.irc_routes.specs.Known.{Known, distance_of}
@@ -85,11 +87,13 @@ with_home user found mode =
       real = user.real;
       home = unwrap_or found [];
       invisible = mode;
+      set = nothing_set;
     }
 
 -- the user that the line makes, of the server that was found
 user_made : (user : User) (found : Option (List ℕ)) (mode : Bool) → found ≡ Some user.home
-    → mode ≡ user.invisible → AddUser (with_home user found mode) ∷ [] ≡ AddUser user ∷ []
+    → mode ≡ user.invisible
+    → AddUser (with_home user found mode) ∷ [] ≡ AddUser (as_introduced user) ∷ []
 user_made user found mode is same =
     ap (λ o. AddUser (with_home user o mode) ∷ []) is
     ∙ ap (λ b. AddUser (with_home user (Some user.home) b) ∷ []) same
@@ -98,7 +102,8 @@ introduced : (known : Known) (reader : Reader) (user : User) (links number : ℕ
     → 1 ≤ links → links ≤ 4294967295 → 1 ≤ number → number ≤ 4294967295 → reader.server number
     ≡ Some user.home → IfSome (reader.distance user.home) (λ there. there ≡ links) → first_fault
     (introduction_line reader user.nick (decimal links) user.user user.host (decimal number)
-    (if user.invisible then with_i else no_mode) user.real) ≡ Ok (AddUser user ∷ [])
+    (if user.invisible then with_i else no_mode) user.real)
+    ≡ Ok (AddUser (as_introduced user) ∷ [])
 introduced known reader user links number within links_some links_most number_some number_most
     found far =
     let mode : List ℕ = if user.invisible then with_i else no_mode in

@@ -21,6 +21,7 @@ use Rattle.irc_names.specs.Names.{IsNick, IsChannel, is_nick, is_channel}
 use Rattle.irc_names.specs.Tables.{row}
 use Rattle.irc_users.specs.declared.user.User.{User}
 use Rattle.irc_users.specs.declared.user_change.UserChange.{UserChange}
+use Rattle.irc_users.specs.UserTable.{new_user}
 use Rattle.irc_room.specs.effect.By.TheVariants as by
 use Rattle.irc_room.specs.effect.Effect.{Effect}
 use Rattle.irc_room.specs.effect.Effect.TheVariants.{AddUser, Rename, Quit, Join, Part, Kick}
@@ -123,7 +124,7 @@ say_plain : (notice : Bool) → IsPlainWord (if notice then codes "NOTICE" else 
 say_plain true = command_plain _ _ refl refl refl
 say_plain false = command_plain _ _ refl refl refl
 
-change_plain : (nick : List ℕ) (change : UserChange) → IsPlainWord nick → IsChangeWithin change
+pub change_plain : (nick : List ℕ) (change : UserChange) → IsPlainWord nick → IsChangeWithin change
     → IsPlain (wire_change nick change)
 change_plain nick change named keeps =
     let words = are_change_words change keeps in
@@ -206,7 +207,7 @@ wire_plain names room known (ChangeUser nick change) plain within sent =
 
 -- anybody who is shown a line
 pub viewer : User
-viewer = record { nick = []; user = []; host = []; real = []; home = []; invisible = false }
+viewer = new_user [] [] [] [] []
 
 pub by_nickname : NamedIsWholeToo → (room : Room) (nick command : List ℕ)
     (middle : List (List ℕ)) (last : Option (List ℕ)) → IsStoredNick room nick
@@ -282,7 +283,7 @@ change_size all prefix middle behind last nick letters text all_is prefix_is mid
     last_is nick_short letters_short text_short =
     omega arith
 
-change_whole : (nick : List ℕ) (change : UserChange) → length nick ≤ max_nick
+pub change_whole : (nick : List ℕ) (change : UserChange) → length nick ≤ max_nick
     → IsChangeWithin change → IsWhole (wire_change nick change)
 change_whole nick change short keeps =
     let words = are_change_words change keeps in

@@ -7,9 +7,9 @@ use Rattle.irc_line.specs.MessageViews.{optional_now}
 use Rattle.irc_commands.specs.CodeViews.{asked_steps}
 use Rattle.irc_queries.specs.declared.query.Query.{Query}
 use Rattle.irc_queries.specs.Said.{all_said}
+use Rattle.irc_routes.specs.declared.newcomer.Newcomer.{Newcomer}
 use Rattle.irc_routes.specs.Known.{place_of}
 use Rattle.irc_stage.specs.declared.clients.Client.{Client}
-use Rattle.irc_stage.specs.declared.linked.Newcomer.{Newcomer}
 use Rattle.irc_stage.specs.declared.origin.Speaker.{Speaker}
 use Rattle.irc_stage.specs.declared.parts.ServerParts.{ServerParts}
 use Rattle.irc_stage.specs.ClientTold.{seated, unseated}
@@ -56,7 +56,7 @@ abbrev pub closed_for : ℕ → CloseReason → Served → Served
 closed_for link reason s = with_sent (end_of_link link reason ∷ []) s
 
 -- A server more is known from now on, where it is taken.
-pub record IsGained (newcomer : Newcomer) (old : Served) (is_known : Bool) (new : Served)
+pub record IsGained (link : ℕ) (newcomer : Newcomer) (old : Served) (is_known : Bool) (new : Served)
     : Type 0 where
-  pub known_is : is_known ≡ takes_newcomer newcomer old.state
-  pub new_is : new ≡ where_it_is (view_with is_known newcomer old.state) old
+  pub known_is : is_known ≡ takes_newcomer link newcomer old.state
+  pub new_is : new ≡ where_it_is (view_with link is_known newcomer old.state) old

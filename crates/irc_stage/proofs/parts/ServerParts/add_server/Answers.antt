@@ -8,17 +8,15 @@ pub returns-in-Ok-clause-serving : goal.returns-in-Ok-clause-serving
 returns-in-Ok-clause-serving c =
     let newcomer = c.args.newcomer.now in
     let stage = c.args.self.now in
-    let known = added newcomer.link newcomer.uplink.now newcomer.name.now newcomer.distance
+    let known = added c.args.link newcomer.uplink.now newcomer.name.now newcomer.distance
     newcomer.token newcomer.info.now stage.routes in
     subst (λ (k : Known). IsServing (record stage { routes = k; ways = c.forget.new.self }))
     (sym (c.in-Ok.ensures.ok
-    ∙ ap (λ n. added n newcomer.uplink.now c.as_bytes.result.now newcomer.distance newcomer.token
-    newcomer.info.now stage.routes) c.number-link.ensures
-    ∙ ap (λ n. added newcomer.link newcomer.uplink.now n newcomer.distance newcomer.token
-    newcomer.info.now stage.routes) c.as_bytes.ensures.value))
+    ∙ ap (λ n. added n newcomer.uplink.now newcomer.name.now newcomer.distance newcomer.token
+    newcomer.info.now stage.routes) c.number-link.ensures))
     (serves_with_routes stage c.requires.serving known.rows c.forget.new.self stage.ends
     c.forget.ensures.forgotten
-    (added_met (numbered stage.ends) stage.routes newcomer.link newcomer.uplink.now
+    (added_met (numbered stage.ends) stage.routes c.args.link newcomer.uplink.now
     newcomer.name.now newcomer.distance newcomer.token newcomer.info.now
     c.requires.serving.ready.met
     c.requires.met))

@@ -4,7 +4,7 @@ use Rattle.irc_routes.specs.About.{IsAbout}
 use Rattle.irc_routes.specs.Known.{alone_known}
 use Rattle.irc_routes.specs.Lemmas.KeptRows.{alone_is}
 use Rattle.irc_routes.proofs.TiedTables.{alone_tied}
-use Rattle.irc_routes.proofs.routes.Routes.new.Goals as goal
+use Rattle.irc_routes.proofs.routes.Routes.alone.Goals as goal
 
 pub invariant_of-result : goal.invariant_of-result
 invariant_of-result c =
