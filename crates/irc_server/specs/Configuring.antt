@@ -6,7 +6,8 @@ use Rattle.std.specs.Cmp.Lexicographic.{pointwise}
 use Rattle.irc_names.specs.Limits.{max_created}
 use Rattle.irc_names.specs.Names.{is_server, fits}
 use Rattle.irc_routes.specs.declared.own.Own.{Own}
-use Rattle.irc_routes.specs.About.{About, about_of}
+use Rattle.irc_routes.specs.declared.programs.Programs.{Programs}
+use Rattle.irc_routes.specs.About.{About, about_of, serves}
 use Rattle.irc_routes.specs.Info.{is_info, is_text_byte}
 use Rattle.irc_routes.specs.Known.{alone_known}
 use Rattle.irc_link_words.specs.Passwords.{is_password}
@@ -52,12 +53,26 @@ config_fault config =
     else (if is_among config.own.name.items config.peers.items || has_double config.peers.items
     then Some DoubleName else None)
 
--- the server that a configuration makes: it has no clients and no links
-abbrev pub made_view : Config → View
-made_view config =
-    new_view (alone_known config.own.name.items (about_of config.own)) config.peers.items
+-- the server of a configuration that says this of itself: it has no clients and no links
+abbrev pub new_server : About → Config → View
+new_server about config =
+    new_view (alone_known config.own.name.items about) config.peers.items
 
--- what comes of a configuration; no memory is wanted for it
+-- the server that a configuration makes
+abbrev pub made_view : Config → View
+made_view config = new_server (about_of config.own) config
+
+-- the same, whose links tell who is away, and whose clients have what programs expect or not
+abbrev pub served_view : Programs → Config → View
+served_view programs config = new_server (serves programs (about_of config.own)) config
+
+-- what comes of a configuration of which this server is made; no memory is wanted for it
+abbrev pub IsMadeAs : View → Config → Result (Option View) ConfigFault → Type 0
+IsMadeAs view config (Ok server) = (config_fault config ≡ None) × (server ≡ Some view)
+IsMadeAs view config (Err fault) = config_fault config ≡ Some fault
+
 abbrev pub IsMade : Config → Result (Option View) ConfigFault → Type 0
-IsMade config (Ok server) = (config_fault config ≡ None) × (server ≡ Some (made_view config))
-IsMade config (Err fault) = config_fault config ≡ Some fault
+IsMade config result = IsMadeAs (made_view config) config result
+
+abbrev pub IsMadeServing : Programs → Config → Result (Option View) ConfigFault → Type 0
+IsMadeServing programs config result = IsMadeAs (served_view programs config) config result

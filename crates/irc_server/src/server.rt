@@ -2,7 +2,7 @@
 ghost use Rattle.std.specs.Prelude.{◌≡◌, Ok, Some, false, is_some, IfOk, OnOk};
 ghost use Rattle.std.specs.FinMap.{get};
 ghost use Rattle.std.specs.Option.{option_and_then, option_copied, option_map, option_map_or};
-ghost use Rattle.irc_server.specs.Configuring.{IsMade};
+ghost use Rattle.irc_server.specs.Configuring.{IsMade, IsMadeServing};
 ghost use Rattle.irc_server.specs.Connected.{has_user, is_user};
 ghost use Rattle.irc_server.specs.LinesThatSet.{IsSetBy};
 ghost use Rattle.irc_server.specs.ReadEvents.{AreHandled, IsHandled};
@@ -20,7 +20,7 @@ use crate::setting_done::set_line;
 use irc_batch::Batch;
 use irc_line::Line;
 use irc_room::Room;
-use irc_routes::Routes;
+use irc_routes::{Programs, Routes};
 use irc_stage::{Client, Conn, FirstStage, Link, Stage, View};
 use std::alloc::{AllocError, Global};
 use std::marker::Model;
@@ -91,7 +91,8 @@ fn is_user(client: Option<&Client>) -> bool
 }
 
 impl Server {
-    /// A server without clients, linked to none.
+    /// A server without clients, linked to none, with the commands of the profile alone. It closes
+    /// a link by which a line tells that a user is away.
     ///
     /// # Errors
     /// [`ConfigFault::BadName`] where a name, a text or a password is outside its limits; then
@@ -104,6 +105,23 @@ impl Server {
             return Err(fault);
         }
         let routes = Routes::new(config.own);
+        Ok(Server {
+            state: State::First(FirstStage::new(alloc, routes, config.peers)),
+        })
+    }
+
+    /// The same of a server whose links tell who is away, and whose clients have what programs
+    /// expect or not. A neighbour has to be such a server, or not to be told who is away.
+    ///
+    /// # Errors
+    /// Those of [`Server::new`].
+    pub fn serving(alloc: Global, config: Config, programs: Programs) -> Result<Self, ConfigFault>
+        ensures { IsMadeServing programs config result }
+    {
+        if let Some(fault) = config_fault(&config) {
+            return Err(fault);
+        }
+        let routes = Routes::serving(config.own, programs);
         Ok(Server {
             state: State::First(FirstStage::new(alloc, routes, config.peers)),
         })

@@ -6,14 +6,14 @@ use Rattle.std.specs.FinMap.{empty}
 use Rattle.std.specs.Option.{option_map}
 use Rattle.irc_line.specs.Reading.{read_of}
 use Rattle.irc_room.specs.Laws.{no_room}
-use Rattle.irc_routes.specs.About.{about_of}
+use Rattle.irc_routes.specs.About.{About}
 use Rattle.irc_routes.specs.Known.{alone_known}
 use Rattle.irc_stage.specs.RoomMachine.{RoomMachine, client_of}
 use Rattle.irc_server.specs.declared.config.Config.{Config}
 use Rattle.irc_server.specs.declared.event.Event.{Event}
 use Rattle.irc_server.specs.declared.event.ServerFault.TheVariants.{NoSuchConnection}
 use Rattle.irc_server.specs.ReadEvents.{read_event_of}
-use Rattle.irc_server.specs.Configuring.{IsMade}
+use Rattle.irc_server.specs.Configuring.{IsMadeAs, new_server}
 use Rattle.irc_stage.specs.View.{View, known_peer, machine_of}
 use Rattle.irc_stage.specs.Handle.{ClientEvent, connects, says, goes}
 use Rattle.irc_server.specs.Served.{of_client, served, fault_of}
@@ -35,11 +35,11 @@ lone_view setting = record {
   room = no_room;
 }
 
--- a server as a configuration says it
-abbrev pub configured : Config → Setting
-configured config = record {
+-- a server as a configuration says it that says this of itself
+abbrev pub configured : About → Config → Setting
+configured about config = record {
   name = config.own.name.items;
-  about = about_of config.own;
+  about = about;
   peers = map known_peer config.peers.items;
 }
 
@@ -50,8 +50,9 @@ OneServerHasNoLink = (setting : Setting) (world : World) → IsSound (setting �
 
 -- what is made of a configuration is that
 abbrev pub NewServerIsAlone : Type 0
-NewServerIsAlone = (config : Config) (server : Option View) → IsMade config (Ok server)
-    → server ≡ Some (lone_view (configured config))
+NewServerIsAlone = (about : About) (config : Config) (server : Option View)
+    → IsMadeAs (new_server about config) config (Ok server)
+    → server ≡ Some (lone_view (configured about config))
 
 -- a server is all that a network of one server is to its clients: it knows no other, and has the
 -- clients and the room of its hall

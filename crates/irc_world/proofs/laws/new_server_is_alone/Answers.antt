@@ -1,4 +1,4 @@
 use Rattle.irc_world.proofs.laws.new_server_is_alone.Goals as goal
 
 pub returns : goal.returns
-returns c config server made = made.1
+returns c about config server made = made.1
