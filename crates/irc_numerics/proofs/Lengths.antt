@@ -21,7 +21,8 @@ use Rattle.irc_numerics.specs.declared.replies.OnChannel.{OnChannel}
 use Rattle.irc_numerics.specs.declared.replies.Reply.{Reply}
 use Rattle.irc_numerics.specs.declared.replies.Reply.TheVariants.{NamReply}
 use Rattle.irc_numerics.specs.Replies.{Piece, ours, limited, asked, count, no_mode, own_mode, sign}
-use Rattle.irc_numerics.specs.Replies.{here, channel_or_star, members, places, piece_text, Row, row}
+use Rattle.irc_numerics.specs.Replies.{presence, channel_or_star, members, places, piece_text}
+use Rattle.irc_numerics.specs.Replies.{Row, row}
 use Rattle.irc_numerics.specs.Replies.{row_words, reply_number, words, table, three_digits}
 use Rattle.irc_numerics.specs.Replies.{numbered, reply_parts, reply_name, spaced, in_a_row}
 use Rattle.irc_numerics.specs.Replies.{mark_text, marked_nick, on_channel}
@@ -93,7 +94,7 @@ most (count _) = 20
 most (no_mode _) = 1
 most (own_mode _) = 2
 most (sign _) = 1
-most (here _) = 2
+most (presence _ _) = 2
 most (channel_or_star _) = max_channel
 most (members _) = most_names
 most (places _) = max_whois_channels * (max_channel + 2)
@@ -109,9 +110,12 @@ piece_fits (own_mode false) short = lit≤ tt
 piece_fits (sign Public) short = lit≤ tt
 piece_fits (sign Private) short = lit≤ tt
 piece_fits (sign Secret) short = lit≤ tt
-piece_fits (here Plain) short = lit≤ tt
-piece_fits (here Voiced) short = lit≤ tt
-piece_fits (here Operator) short = lit≤ tt
+piece_fits (presence true Plain) short = lit≤ tt
+piece_fits (presence true Voiced) short = lit≤ tt
+piece_fits (presence true Operator) short = lit≤ tt
+piece_fits (presence false Plain) short = lit≤ tt
+piece_fits (presence false Voiced) short = lit≤ tt
+piece_fits (presence false Operator) short = lit≤ tt
 piece_fits (channel_or_star None) short = lit≤ tt
 piece_fits (channel_or_star (Some channel)) short = short
 piece_fits (members names) short = spaced_names names short.0 short.1

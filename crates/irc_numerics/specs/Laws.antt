@@ -15,7 +15,7 @@ use Rattle.irc_numerics.specs.declared.replies.Reply.TheVariants.{NamReply}
 use Rattle.irc_numerics.specs.Replies.{reply_text, reply_name, reply_parts, reply_number, words}
 use Rattle.irc_numerics.specs.Replies.{row}
 use Rattle.irc_numerics.specs.Replies.{Piece, ours, limited, asked, count, no_mode, own_mode, sign}
-use Rattle.irc_numerics.specs.Replies.{here, channel_or_star, members, places}
+use Rattle.irc_numerics.specs.Replies.{presence, channel_or_star, members, places}
 
 -- A piece that is as short as its limit says. A client's own words have none.
 abbrev pub IsShort : Piece → Type 0
@@ -26,7 +26,7 @@ IsShort (count number) = number < 2 ^ 64
 IsShort (no_mode _) = ⊤
 IsShort (own_mode _) = ⊤
 IsShort (sign _) = ⊤
-IsShort (here _) = ⊤
+IsShort (presence _ _) = ⊤
 IsShort (channel_or_star channel) = IfSome channel (λ c. length c ≤ max_channel)
 IsShort (members names) = (length names ≤ max_names)
     × AllByRecursion (λ member. length member.nick ≤ max_nick) names

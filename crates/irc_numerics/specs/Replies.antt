@@ -19,13 +19,15 @@ use Rattle.irc_numerics.specs.declared.replies.MemberMark.TheVariants.{Plain, Vo
 use Rattle.irc_numerics.specs.declared.replies.Visibility.TheVariants.{Public, Private, Secret}
 use Rattle.irc_numerics.specs.declared.replies.Reply.TheVariants.{Welcome, YourHost, Created}
 use Rattle.irc_numerics.specs.declared.replies.Reply.TheVariants.{MyInfo, UserModeIs, LuserClient}
-use Rattle.irc_numerics.specs.declared.replies.Reply.TheVariants.{LuserChannels, LuserMe, IsOn}
+use Rattle.irc_numerics.specs.declared.replies.Reply.TheVariants.{LuserChannels, LuserMe, Away}
+use Rattle.irc_numerics.specs.declared.replies.Reply.TheVariants.{UserHost, IsOn, UnAway, NowAway}
 use Rattle.irc_numerics.specs.declared.replies.Reply.TheVariants.{WhoisUser, WhoisServer, EndOfWho}
 use Rattle.irc_numerics.specs.declared.replies.Reply.TheVariants.{EndOfWhois, WhoisChannels}
 use Rattle.irc_numerics.specs.declared.replies.Reply.TheVariants.{List as ListRow, ListEnd}
 use Rattle.irc_numerics.specs.declared.replies.Reply.TheVariants.{ChannelModeIs, NoTopic, Topic}
 use Rattle.irc_numerics.specs.declared.replies.Reply.TheVariants.{Inviting, WhoReply, NamReply}
 use Rattle.irc_numerics.specs.declared.replies.Reply.TheVariants.{EndOfNames, BanList, EndOfBanList}
+use Rattle.irc_numerics.specs.declared.replies.Reply.TheVariants.{EndOfWhoWas, WasNoSuchNick}
 use Rattle.irc_numerics.specs.declared.replies.Reply.TheVariants.{NoSuchNick, NoSuchChannel}
 use Rattle.irc_numerics.specs.declared.replies.Reply.TheVariants.{CannotSendToChan, TooManyChannels}
 use Rattle.irc_numerics.specs.declared.replies.Reply.TheVariants.{TooManyTargets, NoOrigin}
@@ -104,8 +106,8 @@ pub data Piece : Type 0 where
   own_mode : Bool → Piece
   -- who may know of a channel
   sign : Visibility → Piece
-  -- a user that is here, which each is, and its mark
-  here : MemberMark → Piece
+  -- whether a user is away or here, and its mark
+  presence : Bool → MemberMark → Piece
   -- a channel, if one was asked for
   channel_or_star : Option (List ℕ) → Piece
   -- members of a channel
@@ -122,7 +124,7 @@ piece_text (count number) = decimal number
 piece_text (no_mode byte) = byte ∷ []
 piece_text (own_mode invisible) = if invisible then codes "+i" else codes "+"
 piece_text (sign visibility) = visibility_text visibility
-piece_text (here mark) = codes "H" ++ mark_text mark
+piece_text (presence away mark) = (if away then codes "G" else codes "H") ++ mark_text mark
 piece_text (channel_or_star channel) = unwrap_or channel (codes "*")
 piece_text (members names) = spaced (map marked_nick names)
 piece_text (places channels) = spaced (map on_channel channels)
@@ -148,6 +150,9 @@ the_channel = limited max_channel
 
 abbrev pub the_topic : List ℕ → Piece
 the_topic = limited max_words
+
+abbrev pub the_away : List ℕ → Piece
+the_away = limited max_words
 
 -- a text of the server's own words alone
 abbrev pub our : List ℕ → List Piece
@@ -189,7 +194,11 @@ row (LuserChannels channels) = says 254 (count channels ∷ []) (our (codes "cha
 row (LuserMe clients links) = says 255 []
     (ours (codes "I have ") ∷ count clients ∷ ours (codes " clients and ") ∷ count links
     ∷ ours (codes " servers") ∷ [])
+row (Away nick text) = says 301 (the_nick nick ∷ []) (the_away text ∷ [])
+row (UserHost users) = says 302 [] (asked users.items ∷ [])
 row (IsOn nicks) = says 303 [] (asked nicks.items ∷ [])
+row UnAway = says 305 [] (our (codes "You are no longer marked as being away"))
+row NowAway = says 306 [] (our (codes "You have been marked as being away"))
 row (WhoisUser nick user host real) = says 311
     (the_nick nick ∷ the_user user ∷ the_host host ∷ ours (codes "*") ∷ [])
     (the_real_name real ∷ [])
@@ -207,9 +216,9 @@ row (ChannelModeIs channel modes key limit) = lists 324
 row (NoTopic channel) = says 331 (the_channel channel ∷ []) (our (codes "No topic is set"))
 row (Topic channel topic) = says 332 (the_channel channel ∷ []) (the_topic topic.items ∷ [])
 row (Inviting channel nick) = lists 341 (the_channel channel ∷ the_nick nick ∷ [])
-row (WhoReply channel user host server nick mark hops real) = says 352
+row (WhoReply channel user host server nick away mark hops real) = says 352
     (channel_or_star channel ∷ the_user user ∷ the_host host ∷ the_server server ∷ the_nick nick
-    ∷ here mark ∷ [])
+    ∷ presence away mark ∷ [])
     (count hops ∷ ours (codes " ") ∷ the_real_name real ∷ [])
 row (NamReply visibility channel names) =
     says 353 (sign visibility ∷ the_channel channel ∷ []) (members names ∷ [])
@@ -217,12 +226,15 @@ row (EndOfNames name) = says 366 (asked name.items ∷ []) (our (codes "End of N
 row (BanList channel mask) = lists 367 (the_channel channel ∷ limited max_ban_mask mask ∷ [])
 row (EndOfBanList channel) =
     says 368 (the_channel channel ∷ []) (our (codes "End of channel ban list"))
+row (EndOfWhoWas name) = says 369 (asked name.items ∷ []) (our (codes "End of WHOWAS"))
 row (NoSuchNick name) = says 401 (asked name.items ∷ []) (our (codes "No such nick/channel"))
 row (NoSuchChannel name) = says 403 (asked name.items ∷ []) (our (codes "No such channel"))
 row (CannotSendToChan channel) =
     says 404 (the_channel channel ∷ []) (our (codes "Cannot send to channel"))
 row (TooManyChannels channel) =
     says 405 (the_channel channel ∷ []) (our (codes "You have joined too many channels"))
+row (WasNoSuchNick name) =
+    says 406 (asked name.items ∷ []) (our (codes "There was no such nickname"))
 row (TooManyTargets target) = says 407 (asked target.items ∷ []) (our (codes "Too many targets"))
 row NoOrigin = says 409 [] (our (codes "No origin specified"))
 row (NoRecipient command) = says 411 []

@@ -8,8 +8,8 @@ use crate::name_list::NameList;
 use arrayvec::ArrayVec;
 use irc_line::Line;
 use irc_names::{
-    BanMask, ChannelName, Host, Key, MAX_CREATED, MAX_INFO, MAX_WORDS, Nick, RealName, ServerName,
-    UserName,
+    AwayText, BanMask, ChannelName, Host, Key, MAX_CREATED, MAX_INFO, MAX_WORDS, Nick, RealName,
+    ServerName, UserName,
 };
 
 /// A client's own words, as it gave them.
@@ -165,10 +165,23 @@ pub enum Reply {
         clients: usize,
         links: usize,
     },
+    /// 301, with what is told of who is away.
+    Away {
+        nick: Nick,
+        text: AwayText,
+    },
+    /// 302, with the users parted by one space.
+    UserHost {
+        users: ClientWords,
+    },
     /// 303, with the nicknames parted by one space.
     IsOn {
         nicks: ClientWords,
     },
+    /// 305.
+    UnAway,
+    /// 306.
+    NowAway,
     /// 311.
     WhoisUser {
         nick: Nick,
@@ -231,6 +244,7 @@ pub enum Reply {
         host: Host,
         server: ServerName,
         nick: Nick,
+        away: bool,
         mark: MemberMark,
         hops: u32,
         real: RealName,
@@ -254,6 +268,10 @@ pub enum Reply {
     EndOfBanList {
         channel: ChannelName,
     },
+    /// 369, with what was asked for.
+    EndOfWhoWas {
+        name: ClientWords,
+    },
     /// 401, with what was given.
     NoSuchNick {
         name: ClientWords,
@@ -269,6 +287,10 @@ pub enum Reply {
     /// 405.
     TooManyChannels {
         channel: ChannelName,
+    },
+    /// 406, with what was asked for.
+    WasNoSuchNick {
+        name: ClientWords,
     },
     /// 407, with the first target that is too many.
     TooManyTargets {

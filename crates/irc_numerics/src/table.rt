@@ -6,7 +6,7 @@ ghost use Rattle.irc_numerics.specs.declared.replies.Reply.TheVariants.{ChannelM
 
 use crate::pieces::Piece::{Bytes, Members, Number, Places};
 use crate::replies::{ModeLetters, Reply};
-use crate::texts::{channel_or_star, here, user_mode};
+use crate::texts::{channel_or_star, presence, user_mode};
 use crate::writing::ReplyHead;
 use irc_line::Text;
 use irc_names::{ChannelName, Key};
@@ -81,7 +81,15 @@ pub(crate) fn table_line(head: ReplyHead<'_>, reply: &Reply) -> Text
                 Bytes(b" servers"),
             ]),
         ),
+        Reply::Away { nick, text } => head.row(
+            301,
+            &[Bytes(nick.as_bytes())],
+            Some(&[Bytes(text.as_bytes())]),
+        ),
+        Reply::UserHost { users } => head.row(302, &[], Some(&[Bytes(users)])),
         Reply::IsOn { nicks } => head.row(303, &[], Some(&[Bytes(nicks)])),
+        Reply::UnAway => head.said(305, "You are no longer marked as being away"),
+        Reply::NowAway => head.said(306, "You have been marked as being away"),
         Reply::WhoisUser {
             nick,
             user,
@@ -142,6 +150,7 @@ pub(crate) fn table_line(head: ReplyHead<'_>, reply: &Reply) -> Text
             host,
             server,
             nick,
+            away,
             mark,
             hops,
             real,
@@ -153,7 +162,7 @@ pub(crate) fn table_line(head: ReplyHead<'_>, reply: &Reply) -> Text
                 Bytes(host.as_bytes()),
                 Bytes(server.as_bytes()),
                 Bytes(nick.as_bytes()),
-                Bytes(here(mark)),
+                Bytes(presence(*away, mark)),
             ],
             Some(&[Number(*hops as usize), Bytes(b" "), Bytes(real.as_bytes())]),
         ),
@@ -173,6 +182,7 @@ pub(crate) fn table_line(head: ReplyHead<'_>, reply: &Reply) -> Text
             None,
         ),
         Reply::EndOfBanList { channel } => head.on(368, channel, "End of channel ban list"),
+        Reply::EndOfWhoWas { name } => head.about(369, name, "End of WHOWAS"),
         Reply::NoSuchNick { name } => head.about(401, name, "No such nick/channel"),
         Reply::NoSuchChannel { name } => head.about(403, name, "No such channel"),
         Reply::CannotSendToChan { channel } => head.on(404, channel, "Cannot send to channel"),
@@ -181,6 +191,7 @@ pub(crate) fn table_line(head: ReplyHead<'_>, reply: &Reply) -> Text
             channel,
             "You have joined too many channels",
         ),
+        Reply::WasNoSuchNick { name } => head.about(406, name, "There was no such nickname"),
         Reply::TooManyTargets { target } => head.about(407, target, "Too many targets"),
         Reply::NoOrigin => head.said(409, "No origin specified"),
         Reply::NoRecipient { command } => head.row(

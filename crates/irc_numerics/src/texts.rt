@@ -26,14 +26,17 @@ pub(crate) fn channel_or_star(channel: &Option<ChannelName>) -> &[u8]
     }
 }
 
-/// `H` for a user that is here, which each user is, and its mark.
-pub(crate) fn here(mark: &MemberMark) -> &[u8]
-    ensures { result.now ≡ codes "H" ++ mark_text mark.now }
+/// `G` for a user that is away, `H` for one that is here, and its mark.
+pub(crate) fn presence(away: bool, mark: &MemberMark) -> &'static [u8]
+    ensures { result.now ≡ (if away then codes "G" else codes "H") ++ mark_text mark.now }
 {
-    match mark {
-        MemberMark::Plain => b"H",
-        MemberMark::Voiced => b"H+",
-        MemberMark::Operator => b"H@",
+    match (away, mark) {
+        (false, MemberMark::Plain) => b"H",
+        (false, MemberMark::Voiced) => b"H+",
+        (false, MemberMark::Operator) => b"H@",
+        (true, MemberMark::Plain) => b"G",
+        (true, MemberMark::Voiced) => b"G+",
+        (true, MemberMark::Operator) => b"G@",
     }
 }
 

@@ -2,7 +2,9 @@
 use crate::script::{channel, nick, row_of, server};
 use arrayvec::ArrayVec;
 use irc_line::body;
-use irc_names::{BanMask, ChannelName, Host, Key, Nick, RealName, ServerName, UserName, cut_copy};
+use irc_names::{
+    AwayText, BanMask, ChannelName, Host, Key, Nick, RealName, ServerName, UserName, cut_copy,
+};
 use irc_numerics::{
     ClientWords, Listed, MemberMark, NameList, OnChannel, Reply, Visibility, reply_line,
 };
@@ -20,7 +22,11 @@ const LINES: &str = "\
 :a.net 251 al :There are 2 users and 0 services on 1 servers
 :a.net 254 al 2 :channels formed
 :a.net 255 al :I have 2 clients and 0 servers
+:a.net 301 al bo :at lunch
+:a.net 302 al :bo=+u@h
 :a.net 303 al :bo
+:a.net 305 al :You are no longer marked as being away
+:a.net 306 al :You have been marked as being away
 :a.net 311 al bo u h * :Bo Li
 :a.net 312 al bo a.net :Test server
 :a.net 315 al bo :End of WHO list
@@ -33,10 +39,12 @@ const LINES: &str = "\
 :a.net 366 al bo :End of NAMES list
 :a.net 367 al #c a!*@*
 :a.net 368 al #c :End of channel ban list
+:a.net 369 al bo :End of WHOWAS
 :a.net 401 al bo :No such nick/channel
 :a.net 403 al bo :No such channel
 :a.net 404 al #c :Cannot send to channel
 :a.net 405 al #c :You have joined too many channels
+:a.net 406 al bo :There was no such nickname
 :a.net 407 al bo :Too many targets
 :a.net 409 al :No origin specified
 :a.net 411 al :No recipient given (bo)
@@ -134,9 +142,18 @@ fn on_the_network(given: &ReplyNames, number: u16) -> Option<Reply> {
 
 fn on_a_user(given: &ReplyNames, number: u16) -> Option<Reply> {
     match number {
+        301 => Some(Reply::Away {
+            nick: given.nick.copy(),
+            text: AwayText::read(b"at lunch")?,
+        }),
+        302 => Some(Reply::UserHost {
+            users: cut_copy(b"bo=+u@h"),
+        }),
         303 => Some(Reply::IsOn {
             nicks: cut_copy(b"bo"),
         }),
+        305 => Some(Reply::UnAway),
+        306 => Some(Reply::NowAway),
         311 => Some(Reply::WhoisUser {
             nick: given.nick.copy(),
             user: UserName::clean(b"u"),
@@ -187,6 +204,9 @@ fn on_a_channel(given: &ReplyNames, number: u16) -> Option<Reply> {
         368 => Some(Reply::EndOfBanList {
             channel: given.channel.copy(),
         }),
+        369 => Some(Reply::EndOfWhoWas {
+            name: cut_copy(b"bo"),
+        }),
         _ => None,
     }
 }
@@ -234,6 +254,7 @@ fn refusal_of(number: u16, word: ClientWords) -> Option<Reply> {
     match number {
         401 => Some(Reply::NoSuchNick { name: word }),
         403 => Some(Reply::NoSuchChannel { name: word }),
+        406 => Some(Reply::WasNoSuchNick { name: word }),
         407 => Some(Reply::TooManyTargets { target: word }),
         411 => Some(Reply::NoRecipient { command: word }),
         421 => Some(Reply::UnknownCommand { command: word }),
@@ -322,11 +343,12 @@ fn modes_of_channels_are_written(given: &ReplyNames) -> bool {
     all
 }
 
-/// What bo is on a channel, who may know of that, and how it stands in the answers to WHOIS, WHO
-/// and NAMES.
+/// What bo is on a channel, who may know of that, and how it stands in the answers to WHOIS, WHO,
+/// WHO while it is away, and NAMES.
 type MarksRow = (
     MemberMark,
     Visibility,
+    &'static str,
     &'static str,
     &'static str,
     &'static str,
@@ -338,6 +360,7 @@ static MARKS: [MarksRow; 3] = [
         Visibility::Public,
         ":a.net 319 al bo :@#c @#c",
         ":a.net 352 al #c u h a.net bo H@ :0 Bo Li",
+        ":a.net 352 al #c u h a.net bo G@ :0 Bo Li",
         ":a.net 353 al = #c :@bo @bo",
     ),
     (
@@ -345,6 +368,7 @@ static MARKS: [MarksRow; 3] = [
         Visibility::Private,
         ":a.net 319 al bo :+#c +#c",
         ":a.net 352 al #c u h a.net bo H+ :0 Bo Li",
+        ":a.net 352 al #c u h a.net bo G+ :0 Bo Li",
         ":a.net 353 al * #c :+bo +bo",
     ),
     (
@@ -352,6 +376,7 @@ static MARKS: [MarksRow; 3] = [
         Visibility::Secret,
         ":a.net 319 al bo :#c #c",
         ":a.net 352 al #c u h a.net bo H :0 Bo Li",
+        ":a.net 352 al #c u h a.net bo G :0 Bo Li",
         ":a.net 353 al @ #c :bo bo",
     ),
 ];
@@ -408,10 +433,11 @@ fn shows_names(
     }
 }
 
-/// Whether bo, perhaps on a channel, is written as this line.
+/// Whether bo, perhaps on a channel, and away or not, is written as this line.
 fn shows_user(
     given: &ReplyNames,
     channel: Option<ChannelName>,
+    away: bool,
     mark: MemberMark,
     line: &str,
 ) -> bool {
@@ -421,6 +447,7 @@ fn shows_user(
         host: given.host.copy(),
         server: given.server.copy(),
         nick: given.nick.copy(),
+        away,
         mark,
         hops: 0,
         real: RealName::cut(b"Bo Li"),
@@ -430,9 +457,10 @@ fn shows_user(
 
 /// Whether the marks of a row stand in each of the three answers.
 fn is_marked(alloc: Global, given: &ReplyNames, row: &MarksRow) -> bool {
-    let (mark, visibility, channels, user, names) = row;
+    let (mark, visibility, channels, user, away_user, names) = row;
     shows_channels(given, *mark, channels)
-        & shows_user(given, Some(given.channel.copy()), *mark, user)
+        & shows_user(given, Some(given.channel.copy()), false, *mark, user)
+        & shows_user(given, Some(given.channel.copy()), true, *mark, away_user)
         & shows_names(
             given,
             "al",
@@ -463,6 +491,7 @@ fn are_written(alloc: Global, given: &ReplyNames) -> bool {
         & shows_user(
             given,
             None,
+            false,
             MemberMark::Plain,
             ":a.net 352 al * u h a.net bo H :0 Bo Li",
         )

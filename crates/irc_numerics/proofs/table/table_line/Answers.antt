@@ -19,6 +19,24 @@ pub returns-in-LuserChannels : goal.returns-in-LuserChannels
 unfolding table
 returns-in-LuserChannels c = rw c.in-LuserChannels.is c.says.ensures
 
+pub returns-in-Away : goal.returns-in-Away
+unfolding table
+returns-in-Away c =
+    rw (
+      c.in-Away.is,
+      ← c.as_bytes-in-Away.ensures.value,
+      ← c.as_bytes-in-Away-2.ensures.value,
+    )
+    c.row-in-Away.ensures
+
+pub returns-in-UnAway : goal.returns-in-UnAway
+unfolding table
+returns-in-UnAway c = rw c.in-UnAway.is c.said.ensures
+
+pub returns-in-NowAway : goal.returns-in-NowAway
+unfolding table
+returns-in-NowAway c = rw c.in-NowAway.is c.said-in-NowAway.ensures
+
 pub returns-in-EndOfWho : goal.returns-in-EndOfWho
 unfolding table
 returns-in-EndOfWho c = rw c.in-EndOfWho.is c.about.ensures
@@ -29,7 +47,7 @@ returns-in-EndOfWhois c = rw c.in-EndOfWhois.is c.about-in-EndOfWhois.ensures
 
 pub returns-in-ListEnd : goal.returns-in-ListEnd
 unfolding table
-returns-in-ListEnd c = rw c.in-ListEnd.is c.said.ensures
+returns-in-ListEnd c = rw c.in-ListEnd.is c.said-in-ListEnd.ensures
 
 pub returns-in-NoTopic : goal.returns-in-NoTopic
 unfolding table
@@ -42,6 +60,10 @@ returns-in-EndOfNames c = rw c.in-EndOfNames.is c.about-in-EndOfNames.ensures
 pub returns-in-EndOfBanList : goal.returns-in-EndOfBanList
 unfolding table
 returns-in-EndOfBanList c = rw c.in-EndOfBanList.is c.on-in-EndOfBanList.ensures
+
+pub returns-in-EndOfWhoWas : goal.returns-in-EndOfWhoWas
+unfolding table
+returns-in-EndOfWhoWas c = rw c.in-EndOfWhoWas.is c.about-in-EndOfWhoWas.ensures
 
 pub returns-in-NoSuchNick : goal.returns-in-NoSuchNick
 unfolding table
@@ -58,6 +80,10 @@ returns-in-CannotSendToChan c = rw c.in-CannotSendToChan.is c.on-in-CannotSendTo
 pub returns-in-TooManyChannels : goal.returns-in-TooManyChannels
 unfolding table
 returns-in-TooManyChannels c = rw c.in-TooManyChannels.is c.on-in-TooManyChannels.ensures
+
+pub returns-in-WasNoSuchNick : goal.returns-in-WasNoSuchNick
+unfolding table
+returns-in-WasNoSuchNick c = rw c.in-WasNoSuchNick.is c.about-in-WasNoSuchNick.ensures
 
 pub returns-in-TooManyTargets : goal.returns-in-TooManyTargets
 unfolding table
