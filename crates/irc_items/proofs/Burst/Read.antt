@@ -7,7 +7,7 @@ use Rattle.std.proofs.Common.{map, option_map, arith}
 use Rattle.std.proofs.lemmas.Bool.{and_parts}
 use Rattle.std.proofs.lemmas.List.{append-nil, length-append}
 use Rattle.std.specs.Bool.{⊤}
-use Rattle.std.specs.FinMap.{entries, entries_sorted, values, find, is_sorted}
+use Rattle.std.specs.FinMap.{entries, entries_sorted, values, find, get-entries, is_sorted}
 use Rattle.std.specs.List.{flat_map, AllByRecursion}
 use Rattle.std.specs.Option.{option_map_or}
 use Rattle.std.proofs.Math.Bool.{false≢true}
@@ -197,7 +197,7 @@ change_theirs : (far : List ℕ → Bool) (other room : Room) (b : Bool) (nick :
     (change : UserChange) → AreTheirs far other room
     → AreTheirs far other (after_deeds room (cond b (does (ChangeUser nick change) ∷ []) []))
 unfolding after_deed after
-change_theirs far other room false nick change theirs = theirs
+change_theirs far other room false nick change theirs q found is away = theirs q found is away
 change_theirs far other room true nick change theirs q found is away =
     by_fold (same_fold q (key nick)) refl (row room.users (key nick)) refl
     (sym (row-alter (key nick) (option_map (with_change change)) room.users q) ∙ is)

@@ -36,14 +36,15 @@ use Rattle.irc_modes.specs.declared.modes.ModeLetter.{ModeLetter}
 use Rattle.irc_modes.specs.declared.modes.ModeLetter.TheVariants as letter
 use Rattle.irc_modes.specs.declared.modes.Privacy.{Privacy}
 use Rattle.irc_modes.specs.declared.modes.Privacy.TheVariants.{Public, Private, Secret}
+use Rattle.irc_names.specs.Fold.{key}
 use Rattle.irc_names.specs.Names.{IsChannel, is_ban_mask, IsKey}
 use Rattle.irc_names.specs.Tables.{row}
+use Rattle.irc_names.specs.UserTexts.{IsAway}
 use Rattle.irc_room.specs.effect.Effect.TheVariants.{AddUser, ChangeUser}
 use Rattle.irc_room.specs.Limits.{IsBanCarried, IsChangeWithin, IsChannelWithin, IsUserWithin}
 use Rattle.irc_room.specs.Limits.{IsWithinLimits}
 use Rattle.irc_room.specs.Room.{Room, IsWellFormed}
 use Rattle.irc_room.specs.Sendable.{IsSentChange}
-use Rattle.irc_names.specs.UserTexts.{IsAway}
 use Rattle.irc_users.specs.declared.user.User.{User}
 use Rattle.irc_users.specs.declared.user_change.UserChange.{UserChange}
 use Rattle.irc_users.specs.declared.user_change.UserChange.TheVariants.{Away}
@@ -158,13 +159,13 @@ record IsThere (other : Room) (user : User) : Type 0 where
   there : row other.users (key user.nick) ≡ Some user
   within : IsUserWithin user
 
-changes_stated : (server : List ℕ) (other : Room) (user : User) → IsThere other user
+its_changes_stated : (server : List ℕ) (other : Room) (user : User) → IsThere other user
     → (changes : List UserChange) → AllByRecursion IsChangeWithin changes
     → AllByRecursion (λ change. is_shown change ≡ false) changes
     → AllByRecursion (IsTold server other)
     (map (λ change. does (ChangeUser user.nick change)) changes)
-changes_stated server other user is [] keep unseen = tt
-changes_stated server other user is (change ∷ changes) keep unseen = (
+its_changes_stated server other user is [] keep unseen = tt
+its_changes_stated server other user is (change ∷ changes) keep unseen = (
   record {
     their = user;
     there = is.there;
@@ -172,7 +173,7 @@ changes_stated server other user is (change ∷ changes) keep unseen = (
     keeps = keep.0;
     unseen = unseen.0;
   },
-  changes_stated server other user is changes keep.1 unseen.1,
+  its_changes_stated server other user is changes keep.1 unseen.1,
 )
 
 own_stated : (server : List ℕ) (other : Room) (es : List (List ℕ × User))
@@ -181,7 +182,7 @@ own_stated : (server : List ℕ) (other : Room) (es : List (List ℕ × User))
 own_stated server other [] all = tt
 own_stated server other (e ∷ es) all =
     both_all (IsTold server other) (own_deeds e.1) (flat_map own_deeds (map (λ e. e.1) es))
-    (changes_stated server other e.1 all.0 (changes_of e.1)
+    (its_changes_stated server other e.1 all.0 (changes_of e.1)
     (set_within e.1.set.away all.0.within.away) (told_unseen e.1))
     (own_stated server other es all.1)
 
