@@ -72,7 +72,7 @@ deeds_of_changes [] = tt
 deeds_of_changes (user ∷ users) =
     both_all StandsBehind (own_deeds user) (flat_map own_deeds users)
     (lines_of StandsBehind (λ change. does (ChangeUser user.nick change)) (λ change. tt)
-          (changes_of user))
+    (changes_of user))
     (deeds_of_changes users)
 
 behind_one : (deed : Deed) → IsOfChannel deed → StandsBehind deed
