@@ -68,6 +68,7 @@ module _ (numbers : Numbers) (own other : View) (place conn : ℕ) (apart : AreA
         distance = distance_path i;
         has_far =
             λ name. option_map_or (some_far (far_same i)) (row own.room.channels (key name)) false;
+        tells_away = (known.about i).tells_away;
       })
     where
       some_far : (List ℕ → Bool) → Channel → Bool

@@ -89,6 +89,7 @@ module _ (room other : Room) (alike : AreAlike room other) where
     server = token_in known link;
     distance = distance_of known;
     has_far = λ name. far_alike known link name i;
+    tells_away = known.about.tells_away;
   }
 
 pub alike_write_alike : AlikeWriteAlike

@@ -14,6 +14,7 @@ use Rattle.irc_names.specs.Names.{IsNick, is_nick}
 use Rattle.irc_names.specs.Tables.{Table, row}
 use Rattle.irc_users.specs.declared.user.User.{User}
 use Rattle.irc_users.specs.declared.user_change.UserChange.{UserChange}
+use Rattle.irc_users.specs.declared.user_change.UserChange.TheVariants.{Invisible, Away}
 use Rattle.irc_room.specs.effect.Effect.TheVariants.{ChangeUser}
 use Rattle.irc_room.specs.Effects.{has_user}
 use Rattle.irc_room.specs.Limits.{IsWithinLimits}
@@ -23,6 +24,7 @@ use Rattle.irc_room.specs.Seen.{stored_nick}
 use Rattle.irc_room.specs.Sendable.{IsSendable, IsStoredNick}
 use Rattle.irc_routes.specs.Known.{Known}
 use Rattle.irc_merge.specs.Deeds.{Deed, does}
+use Rattle.irc_link_reader.specs.Means.{is_told_of}
 use Rattle.irc_link_reader.specs.Reader.{Reader, is_behind_link, may_come, reader_of}
 use Rattle.irc_link_writer.specs.Written.{wire, wire_change}
 use Rattle.irc_readback.specs.Lemmas.CarriedParts.{told_is_carried}
@@ -35,7 +37,8 @@ use Rattle.irc_stage.specs.View.{View}
 use Rattle.irc_server.specs.Heard.{heard, tells}
 use Rattle.irc_relay.specs.Links.{Name}
 use Rattle.irc_follow.specs.Says.{Aside, IsDoableEffect, IsFar, Says}
-use Rattle.irc_follow.specs.SideState.{ItemSetting, SideState, number}
+use Rattle.irc_follow.specs.SideState.{ItemSetting, SideState, info_in, number}
+use Rattle.irc_follow.specs.Tree.{IsSoundTree}
 use Rattle.irc_follow.specs.Lemmas.Neighbours.{IsKnownOfLines}
 use Rattle.irc_items.proofs.Burst.Lines.{IsBurstReader, heard_so, met, rooms, stands_aside}
 use Rattle.irc_items.proofs.Burst.Told.{IsTheirChange}
@@ -99,6 +102,18 @@ module _ (laws : IsKnownOfLines) (s : ItemSetting) (b t : Name) (w : SideState) 
       by None at = refl
       by (Some user) at = theirs.behind user at
 
+  -- links tell the reader who is away, and so all that it may change
+  told_of : is_told_of reader change ≡ true
+  told_of = by change
+    where
+      tree : IsSoundTree s.names (info_in s.settings) w.tree
+      tree = is.fits.sound.tree
+
+      by : (c : UserChange) → is_told_of reader c ≡ true
+      by (Away text) = ap (λ (k : Known). k.about.tells_away) is.fits.routes
+          ∙ tree.told_away t (tree.known_among t (tree.here_known t is.fits.here))
+      by (Invisible invisible) = refl
+
   -- who is there by the reader's table is there
   there_so : (c : Bool) → has_user w.hall.room nick ≡ c
       → (is_some (reader.home nick) && true) ≡ c
@@ -118,7 +133,7 @@ module _ (laws : IsKnownOfLines) (s : ItemSetting) (b t : Name) (w : SideState) 
   unfolding deeds_meant
   meant_so c has =
       ap (effects_told view.routes.name view.room (Some nick))
-      (change_meant reader nick change nick_named comes told.keeps)
+      (change_meant reader nick change nick_named comes told_of told.keeps)
       ∙ ap (λ d. effects_told view.routes.name view.room (Some nick)
       (Ok (if d then ChangeUser nick change ∷ [] else []))) (there_so c has)
       ∙ by c

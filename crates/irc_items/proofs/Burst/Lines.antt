@@ -587,7 +587,13 @@ module _ (s : ItemSetting) (b t : Name) (w : SideState) (view : View)
       → IsReadable their_room (routes b) (reader_of view.room view.routes (number s b))
       (AddUser user)
   user_readable sent their_room room_within =
-      record { room_within = room_within; sendable = sent; users_known = refl; doer_far = tt }
+      record {
+        room_within = room_within;
+        sendable = sent;
+        users_known = refl;
+        doer_far = tt;
+        told_of = refl;
+      }
 
   pub new_user_said : IsKnownOfLines → EachIsReadBack → IsSentUser user → row w.hall.room.users
       (key user.nick) ≡ None → (their_room : Room) → IsWithinLimits their_room → Says s b t w view
