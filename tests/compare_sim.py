@@ -62,6 +62,7 @@ class Task(NamedTuple):
     servers: int
     in_order: bool
     pieces: bool
+    programs: bool
     seed: int
 
 
@@ -90,7 +91,7 @@ def made(task):
         script = subprocess.run(command, capture_output=True, timeout=SECONDS, check=True).stdout
         script = in_pieces(script, task.seed) if task.pieces else script
     else:
-        script = generate.script(task.seed, kind == WILD, task.servers)
+        script = generate.script(task.seed, kind == WILD, task.servers, task.programs)
     is_damaged = kind == DAMAGED and not (task.oracle and task.servers > 1)
     return generate.damaged(script, task.seed) if is_damaged else script
 
@@ -98,7 +99,7 @@ def made(task):
 def answered(task, script):
     """What `ircd sim` has to answer to a script."""
     if not task.oracle:
-        return model.answer(script)
+        return model.answer(script, task.programs)
     return ran([sys.executable, f"{task.oracle}/oracle.py", "--sim"] + ([f"--upto={task.upto}"] if task.upto else []) + list(task.given), script)
 
 
@@ -169,6 +170,7 @@ def main():
     parser.add_argument("--order", action="store_true", help="with several servers, compare the order of all lines")
     parser.add_argument("--upto", default="channels", help="with ORACLE, how far the program is built; empty: whole")
     parser.add_argument("--give", action="append", default=[], metavar="WORD", help="with ORACLE, a word for each of its programs, as --give=--long-nicks")
+    parser.add_argument("--programs", action="store_true", help="of a program whose scripts have servers with what programs expect")
     parser.add_argument("--program", default=str(REPOSITORY / "crates/ircd/out/ircd"))
     options = parser.parse_args()
     oracle = os.environ.get("ORACLE")
@@ -180,7 +182,7 @@ def main():
         sys.exit(f"no program {options.program}: ./ircd build makes it")
     start = time.monotonic()
     seeds = range(options.seed, options.seed + options.scripts)
-    tasks = [Task(options.program, oracle, options.upto, tuple(options.give), options.servers, options.order, options.pieces, seed) for seed in seeds]
+    tasks = [Task(options.program, oracle, options.upto, tuple(options.give), options.servers, options.order, options.pieces, options.programs, seed) for seed in seeds]
     lines = differences = 0
     with multiprocessing.Pool(PROCESSES) as pool:
         for seed, count, difference in pool.imap(compared, tasks, chunksize=8):

@@ -69,6 +69,7 @@ called 7";
 
 /// b.net has not named itself.
 static STRANGE: ServerScene = ServerScene {
+    programs: None,
     before: BEFORE,
     then: "",
     behind: WORD,
@@ -76,6 +77,7 @@ static STRANGE: ServerScene = ServerScene {
 
 /// It is linked.
 static LINKED: ServerScene = ServerScene {
+    programs: None,
     before: BEFORE,
     then: GREETING,
     behind: LOSS,
@@ -83,6 +85,7 @@ static LINKED: ServerScene = ServerScene {
 
 /// Others are behind it.
 static CROWDED: ServerScene = ServerScene {
+    programs: None,
     before: BEFORE,
     then: CROWD,
     behind: LOST_CROWD,
@@ -90,18 +93,21 @@ static CROWDED: ServerScene = ServerScene {
 
 // The same, where 256 servers are known.
 static FULL_STRANGE: ServerScene = ServerScene {
+    programs: None,
     before: BEFORE,
     then: FULL,
     behind: WORD,
 };
 
 static FULL_LINKED: ServerScene = ServerScene {
+    programs: None,
     before: BEFORE,
     then: FULL_GREETING,
     behind: LOSS,
 };
 
 static FULL_CROWDED: ServerScene = ServerScene {
+    programs: None,
     before: BEFORE,
     then: FULL_CROWD,
     behind: LOST_CROWD,

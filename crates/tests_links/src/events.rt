@@ -19,15 +19,17 @@ use crate::stage::bytes;
 use irc_batch::{Batch, Out};
 use irc_line::{Line, lines_of_pieces};
 use irc_names::{Host, ServerName};
-use irc_routes::Own;
+use irc_routes::{Own, Programs};
 use irc_server::{Config, Event, Peer, Server, ServerFault};
 use itoa::Buffer;
 use std::alloc::Global;
 use std::process::Abort;
 
-/// What happens before each row of a table, and what comes behind it.
+/// Of what server a table is, what happens before each of its rows, and what comes behind it.
 #[derive(Drop)]
 pub struct ServerScene {
+    /// Whether its clients have what programs expect; none where links do not tell who is away.
+    pub programs: Option<Programs>,
     pub before: &'static str,
     pub then: &'static str,
     pub behind: &'static str,
@@ -60,12 +62,15 @@ fn own(rt: &impl Abort, alloc: Global) -> Own {
 }
 
 /// a.net, which describes itself as A.
-fn server(rt: &impl Abort, alloc: Global) -> Server {
+fn server(rt: &impl Abort, alloc: Global, programs: Option<Programs>) -> Server {
     let config = Config {
         own: own(rt, alloc),
         peers: peers(rt, alloc),
     };
-    Server::new(alloc, config).expect(rt, "a server")
+    match programs {
+        Some(programs) => Server::serving(alloc, config, programs).expect(rt, "a server"),
+        None => Server::new(alloc, config).expect(rt, "a server"),
+    }
 }
 
 fn number_of(word: &str) -> u64 {
@@ -293,7 +298,7 @@ fn holds_of_new(
     row: &str,
     out: &mut Batch,
 ) -> bool {
-    let mut server = server(rt, alloc);
+    let mut server = server(rt, alloc, scene.programs);
     holds_behind(alloc, &mut server, scene, row, out)
 }
 
@@ -314,6 +319,24 @@ pub fn table_holds(rt: &impl Abort, alloc: Global, scene: &ServerScene, rows: &s
 /// Whether each row of a table holds behind what happens before.
 pub fn rows_hold(rt: &impl Abort, alloc: Global, before: &'static str, rows: &str) -> bool {
     let scene = ServerScene {
+        programs: None,
+        before,
+        then: "",
+        behind: "",
+    };
+    table_holds(rt, alloc, &scene, rows)
+}
+
+/// The same of a server whose links tell who is away.
+pub fn rows_hold_serving(
+    rt: &impl Abort,
+    alloc: Global,
+    programs: Programs,
+    before: &'static str,
+    rows: &str,
+) -> bool {
+    let scene = ServerScene {
+        programs: Some(programs),
         before,
         then: "",
         behind: "",

@@ -3,6 +3,8 @@
 #![tactic(auto)]
 
 #[cfg(test)]
+mod away;
+#[cfg(test)]
 mod bursting;
 #[cfg(test)]
 mod closings;

@@ -15,7 +15,7 @@ use irc_channels::Words;
 use irc_link_words::read_changes;
 use irc_names::{ChannelName, Host, Nick, ServerName, is_server};
 use irc_room::{By, Effect, ModeChanges, Room, ShownLine};
-use irc_routes::{Info, Newcomer, Own, Routes};
+use irc_routes::{Info, Newcomer, Own, Programs, Routes};
 use irc_users::{RealName, User, UserName};
 use itoa::Buffer;
 use std::alloc::Global;
@@ -91,7 +91,7 @@ fn routes(rt: &impl Abort, alloc: Global) -> Routes {
     };
     assert!(rt; is_server(&own.name));
     assert!(rt; Info::read(&own.info).is_some());
-    Routes::new(own)
+    Routes::serving(own, Programs::Off)
 }
 
 /// Adds a server behind link 1, where its number there is free.
