@@ -19,6 +19,7 @@ use Rattle.irc_room.specs.Room.{Room, IsWellFormed}
 use Rattle.irc_room.specs.After.{after}
 use Rattle.irc_merge.specs.Deeds.{Deed, does, gains, loses, kills, after_deed, shown_by}
 use Rattle.irc_merge.specs.Quits.{collision_text}
+use Rattle.irc_relay.specs.Distances.{IsAmong}
 use Rattle.irc_relay.specs.Links.{Name, same, AreLinked}
 use Rattle.irc_relay.specs.Relay.{Streams, TakesFrom}
 use Rattle.irc_routes.specs.About.{About, says_nothing}
