@@ -5,7 +5,7 @@
 -- :bye` is a line of a.net's client. Until b.net has taken the line by which a.net tells of it,
 -- b.net is at the moment of before, and so is c.net; a.net's own is that of afterwards. What each
 -- of them is at its moment, `Fits` says.
-use Rattle.std.specs.Prelude.{◌≡◌, ◌≤◌, ℕ, Bool, false, Option, Some, None, List, [], ◌∷◌, ◌++◌}
+use Rattle.std.specs.Prelude.{◌≡◌, ◌≤◌, ℕ, Bool, true, false, Option, Some, None, List, [], ◌∷◌, ◌++◌}
 use Rattle.std.specs.Prelude.{length, not, if◌then◌else◌}
 use Rattle.std.specs.List.{list_any}
 use Rattle.std.specs.Option.{option_map_or}
