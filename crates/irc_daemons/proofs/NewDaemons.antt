@@ -8,11 +8,12 @@ use Rattle.std.specs.Option.{option_and_then}
 use Rattle.std.specs.Ordering.{nat_cmp}
 use Rattle.std.proofs.lemmas.Option.{slice_get-map}
 use Rattle.irc_names.specs.Tables.{fold_cmp}
+use Rattle.irc_routes.specs.declared.programs.Programs.{Programs}
 use Rattle.irc_routes.specs.declared.server_row.ServerRow.{ServerRow}
 use Rattle.irc_routes.specs.Known.{row_of}
 use Rattle.irc_stage.specs.declared.clients.Client.{Client}
 use Rattle.irc_stage.specs.View.{End, View}
-use Rattle.irc_server.specs.Configuring.{made_view}
+use Rattle.irc_server.specs.Configuring.{served_view}
 use Rattle.irc_server.specs.declared.config.Config.{Config}
 use Rattle.irc_network.specs.Network.{Node, node_at}
 use Rattle.irc_pipes.specs.Pipes.{LinkPipe, new_pipe, pipe_at}
@@ -21,12 +22,13 @@ use Rattle.irc_network.specs.Whole.{IsAsNew, NewIsWhole, has_way, no_pipes}
 use Rattle.irc_items.specs.SetUp.{setting_at}
 use Rattle.irc_net.specs.Calls.{standing}
 use Rattle.irc_net.specs.Laws.{EveryRunIsKept}
-use Rattle.irc_net.specs.Making.{made_of, new_node, setting_given}
+use Rattle.irc_net.specs.Making.{config_name, made_of, new_node, setting_given}
 use Rattle.irc_net.specs.Running.{HasRun, made}
 use Rattle.irc_engine.specs.Hearing.{begun_at}
 use Rattle.irc_engine.specs.EngineView.{EngineView}
 use Rattle.irc_daemons.specs.Alike.{AreAlike, AreServersAlikeIf, AreRowsAlike, Numbers}
 use Rattle.irc_daemons.specs.AsBytes.{IsAsBytes, IsServerIf, IsServerOf, numbers_at}
+use Rattle.irc_relay.specs.Links.{Name}
 use Rattle.irc_relay.specs.Relay.{IsFront}
 use Rattle.irc_daemons.specs.AsNetwork.{AreClientsOpen, IsAsNetwork}
 use Rattle.irc_daemons.specs.Daemons.{AreJoined, Daemons, IsToldOfLinks, connection_at, end_at}
@@ -39,9 +41,9 @@ use Rattle.irc_daemons.proofs.Told.{begun_or_none}
 
 -- ---- a new server
 
-module _ (config : Config) where
+module _ (programs : Name → Programs) (config : Config) where
   abbrev view : View
-  view = made_view config
+  view = served_view (programs (config_name config)) config
 
   no_row : (name : List ℕ) → row_of view.routes name ≡ None
   no_row name = get-empty {X = ServerRow} fold_cmp name
@@ -68,8 +70,9 @@ module _ (config : Config) where
       room = refl;
     }
 
-    new_server : {W : Type 0} (engine : EngineView W) → IsNewOf config engine
-        → IsServerOf numbers engine (new_node config)
+    new_server : {W : Type 0} (engine : EngineView W)
+        → IsNewOf (programs (config_name config)) config engine
+        → IsServerOf numbers engine (new_node programs config)
     new_server engine new = record {
       in_order = new.is_new.in_order;
       framers = λ conn begun is. cc (sym (ap begun_at (new.is_new.no_connections conn)) ∙ is);
@@ -81,44 +84,46 @@ module _ (config : Config) where
           });
     }
 
-new_servers : {W : Type 0} (numbers : Numbers) → ((y : ℕ) → numbers.link y ≡ None) → ((client : ℕ)
-    → numbers.client client ≡ None) → (config : Option Config) (engine : Option (EngineView W))
-    → IsNewIf config engine → IsServerIf numbers engine (option_map new_node config)
-new_servers numbers no_links no_seats None None is = tt
-new_servers numbers no_links no_seats (Some config) (Some engine) is =
-    new_server config numbers no_links no_seats engine is
-new_servers numbers no_links no_seats None (Some engine) is = absurd is
-new_servers numbers no_links no_seats (Some config) None is = absurd is
+new_servers : {W : Type 0} (programs : Name → Programs) (numbers : Numbers)
+    → ((y : ℕ) → numbers.link y ≡ None) → ((client : ℕ) → numbers.client client ≡ None)
+    → (config : Option Config) (engine : Option (EngineView W)) → IsNewIf programs config engine
+    → IsServerIf numbers engine (option_map (new_node programs) config)
+new_servers programs numbers no_links no_seats None None is = tt
+new_servers programs numbers no_links no_seats (Some config) (Some engine) is =
+    new_server programs config numbers no_links no_seats engine is
+new_servers programs numbers no_links no_seats None (Some engine) is = absurd is
+new_servers programs numbers no_links no_seats (Some config) None is = absurd is
 
 -- ---- a new network
 
-no_queues : (configs : List Config)
-    → AllByRecursion (λ (node : Node). node.queues ≡ empty) (map new_node configs)
-no_queues [] = tt
-no_queues (config ∷ configs) = (refl, no_queues configs)
+no_queues : (programs : Name → Programs) (configs : List Config)
+    → AllByRecursion (λ (node : Node). node.queues ≡ empty) (map (new_node programs) configs)
+no_queues programs [] = tt
+no_queues programs (config ∷ configs) = (refl, no_queues programs configs)
 
 no_pipe : (servers from to : ℕ) → pipe_at (replicate servers empty) from to ≡ new_pipe
 no_pipe zero from to = refl
 no_pipe (suc servers) zero to = ap (λ o. unwrap_or o new_pipe) (get-empty {X = LinkPipe} nat_cmp to)
 no_pipe (suc servers) (suc from) to = no_pipe servers from to
 
-no_way : (configs : List Config) (from to : ℕ) → has_way (made_of configs) from to ≡ false
-no_way configs from to =
+no_way : (programs : Name → Programs) (configs : List Config) (from to : ℕ)
+    → has_way (made_of programs configs) from to ≡ false
+no_way programs configs from to =
     ap (λ o. is_some (option_and_then (λ (node : Node). get node.queues to) o))
-    (slice_get-map new_node configs from) ∙ by (slice_get configs from)
+    (slice_get-map (new_node programs) configs from) ∙ by (slice_get configs from)
   where
     by : (o : Option Config) → is_some
-        (option_and_then (λ (node : Node). get node.queues to) (option_map new_node o)) ≡ false
+        (option_and_then (λ (node : Node). get node.queues to) (option_map (new_node programs) o)) ≡ false
     by None = refl
     by (Some config) = ap is_some (get-empty {X = List (List ℕ)} nat_cmp to)
 
 module _ {W : Type 0} (whole : NewIsWhole) (configs : List Config) (daemons : Daemons W)
     (new : AreNew configs daemons) where
   abbrev pub net : ByteNetwork
-  net = no_pipes (made_of new.ordered)
+  net = no_pipes (made_of new.programs new.ordered)
 
   is_as_new : IsAsNew net
-  is_as_new = whole (made_of new.ordered) (no_queues new.ordered)
+  is_as_new = whole (made_of new.programs new.ordered) (no_queues new.programs new.ordered)
 
   no_end_at : (x y : ℕ) → end_at daemons x y ≡ None
   no_end_at x y = ap (option_and_then (connection_at daemons x)) (new.no_link x y)
@@ -148,19 +153,19 @@ module _ {W : Type 0} (whole : NewIsWhole) (configs : List Config) (daemons : Da
   new_as_bytes = record {
     servers = λ place.
         subst (IsServerIf (numbers_at daemons place) (slice_get daemons.engines place))
-        (sym (slice_get-map new_node new.ordered place))
-        (new_servers (numbers_at daemons place) (λ y. new.no_link place y)
+        (sym (slice_get-map (new_node new.programs) new.ordered place))
+        (new_servers new.programs (numbers_at daemons place) (λ y. new.no_link place y)
         (λ client. new.no_seat place client) (slice_get new.ordered place)
         (slice_get daemons.engines place) (new.engines place));
-    ways = λ from to. no_way new.ordered from to ∙ sym (new.no_way from to);
-    pipes = λ from to. no_pipe (length (made_of new.ordered).nodes) from to
+    ways = λ from to. no_way new.programs new.ordered from to ∙ sym (new.no_way from to);
+    pipes = λ from to. no_pipe (length (made_of new.programs new.ordered).nodes) from to
         ∙ sym (nothing_between from to);
     tidy = is_as_new.whole.tidy;
   }
 
   -- ---- such a network
 
-  pub new_run : HasRun configs [] (standing net)
+  pub new_run : HasRun new.programs configs [] (standing net)
   new_run = made (
     new.possible,
     refl,
@@ -172,16 +177,16 @@ module _ {W : Type 0} (whole : NewIsWhole) (configs : List Config) (daemons : Da
     },
   )
 
-  settings_made : (configs : List Config)
-      → filter_map setting_at (map new_node configs) ≡ map setting_given configs
-  settings_made [] = refl
-  settings_made (config ∷ configs) =
-      ap (λ settings. setting_given config ∷ settings) (settings_made configs)
+  settings_made : (programs : Name → Programs) (configs : List Config) → filter_map setting_at
+      (map (new_node programs) configs) ≡ map (setting_given programs) configs
+  settings_made programs [] = refl
+  settings_made programs (config ∷ configs) =
+      ap (λ settings. setting_given programs config ∷ settings) (settings_made programs configs)
 
   pub new_going : EveryRunIsKept → IsGoing (settings_in new) [] net
   new_going kept = record {
-    kept = kept configs [] (standing net) new_run;
-    settings_are = settings_made new.ordered;
+    kept = kept new.programs configs [] (standing net) new_run;
+    settings_are = settings_made new.programs new.ordered;
     items_are = refl;
   }
 

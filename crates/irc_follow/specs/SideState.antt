@@ -5,7 +5,7 @@
 -- :bye` is a line of a.net's client. Until b.net has taken the line by which a.net tells of it,
 -- b.net is at the moment of before, and so is c.net; a.net's own is that of afterwards. What each
 -- of them is at its moment, `Fits` says.
-use Rattle.std.specs.Prelude.{◌≡◌, ◌≤◌, ℕ, Bool, false, Option, Some, None, List, [], ◌∷◌, ◌++◌}
+use Rattle.std.specs.Prelude.{◌≡◌, ◌≤◌, ℕ, Bool, true, false, Option, Some, None, List, [], ◌∷◌, ◌++◌}
 use Rattle.std.specs.Prelude.{length, not, if◌then◌else◌}
 use Rattle.std.specs.List.{list_any}
 use Rattle.std.specs.Option.{option_map_or}
@@ -19,6 +19,7 @@ use Rattle.irc_room.specs.Room.{Room, IsWellFormed}
 use Rattle.irc_room.specs.After.{after}
 use Rattle.irc_merge.specs.Deeds.{Deed, does, gains, loses, kills, after_deed, shown_by}
 use Rattle.irc_merge.specs.Quits.{collision_text}
+use Rattle.irc_relay.specs.Distances.{IsAmong}
 use Rattle.irc_relay.specs.Links.{Name, same, AreLinked}
 use Rattle.irc_relay.specs.Relay.{Streams, TakesFrom}
 use Rattle.irc_routes.specs.About.{About, says_nothing}

@@ -21,9 +21,10 @@ use Rattle.irc_relay.specs.Distances.{IsAmong}
 use Rattle.irc_relay.specs.Links.{Name, same}
 use Rattle.irc_relay.specs.Lemmas.TellingNames.{Telling, alike, unlike, tell, same_unless}
 use Rattle.irc_routes.specs.About.{About, IsAbout, about_of}
+use Rattle.irc_routes.specs.declared.programs.Programs.{Programs}
 use Rattle.irc_routes.specs.Info.{is_info}
 use Rattle.irc_server.specs.Configuring.{has_double, is_about, is_among, is_peer, is_some_text}
-use Rattle.irc_server.specs.Configuring.{made_view}
+use Rattle.irc_server.specs.Configuring.{served_view}
 use Rattle.irc_server.specs.declared.config.Config.{Config}
 use Rattle.irc_server.specs.declared.config.ConfigFault.TheVariants as one
 use Rattle.irc_stage.specs.View.{View, known_peer}
@@ -149,10 +150,12 @@ passwords_kept (peer ∷ peers) all = (
     now : (is_peer peer ≡ true) × (list_all is_peer peers ≡ true)
     now = and_parts (is_peer peer) (list_all is_peer peers) all
 
-configured : (config : Config) → is_bad_config config ≡ false → IsConfigured (made_view config)
-configured config good = record {
+configured : (programs : Programs) (config : Config) → is_bad_config config ≡ false
+    → IsConfigured (served_view programs config)
+configured programs config good = record {
   name = rules.named_so;
-  about = about_kept (about_of config.own) rules.said_so;
+  about = record { info = said.info; created = said.created };
+  told_away = refl;
   passwords = passwords_kept config.peers.items rules.peered_so;
 }
   where
@@ -162,78 +165,93 @@ configured config good = record {
         (list_all is_peer config.peers.items)
         (is_among config.own.name.items config.peers.items || has_double config.peers.items) good
 
-all_configured : (configs : List Config) → list_any is_bad_config configs ≡ false
-    → AllByRecursion (λ (config : Config). IsConfigured (made_view config)) configs
-all_configured [] good = tt
-all_configured (config ∷ configs) good = (configured config parts.0, all_configured configs parts.1)
+    said : IsAbout (about_of config.own)
+    said = about_kept (about_of config.own) rules.said_so
+
+-- the server of a configuration, as it is made
+abbrev view_given : (Name → Programs) → Config → View
+view_given programs config = served_view (programs (config_name config)) config
+
+all_configured : (programs : Name → Programs) (configs : List Config)
+    → list_any is_bad_config configs ≡ false
+    → AllByRecursion (λ (config : Config). IsConfigured (view_given programs config)) configs
+all_configured programs [] good = tt
+all_configured programs (config ∷ configs) good = (
+  configured (programs (config_name config)) config parts.0,
+  all_configured programs configs parts.1,
+)
   where
     parts : (is_bad_config config ≡ false) × (list_any is_bad_config configs ≡ false)
     parts = or_parts (is_bad_config config) (list_any is_bad_config configs) good
 
 -- ---- each is there
 
-nodes_named : (configs : List Config)
-    → map named_at (map new_node configs) ≡ map Some (map config_name configs)
-nodes_named [] = refl
-nodes_named (config ∷ configs) =
-    ap (λ names. Some (config_name config) ∷ names) (nodes_named configs)
+module _ (programs : Name → Programs) where
+  nodes_named : (configs : List Config)
+      → map named_at (map (new_node programs) configs) ≡ map Some (map config_name configs)
+  nodes_named [] = refl
+  nodes_named (config ∷ configs) =
+      ap (λ names. Some (config_name config) ∷ names) (nodes_named configs)
 
-none_queued : (configs : List Config)
-    → AllByRecursion (λ (node : Node). node.queues ≡ empty) (map new_node configs)
-none_queued [] = tt
-none_queued (config ∷ configs) = (refl, none_queued configs)
+  none_queued : (configs : List Config)
+      → AllByRecursion (λ (node : Node). node.queues ≡ empty) (map (new_node programs) configs)
+  none_queued [] = tt
+  none_queued (config ∷ configs) = (refl, none_queued configs)
 
--- what is so of each server at a place is so of the one of each name
-made_there : (P : View → Type 0) (configs : List Config) (place : ℕ)
-    → AllByRecursion (λ (config : Config). P (made_view config)) configs
-    → place < length configs → P (unwrap_or (option_and_then (λ (node : Node). node.server)
-    (slice_get (map new_node configs) place)) no_view)
-made_there P [] place all within = absurd (omega (arith, within))
-made_there P (config ∷ configs) zero all within = all.0
-made_there P (config ∷ configs) (suc place) all within =
-    made_there P configs place all.1 (omega (arith, within))
+  -- what is so of each server at a place is so of the one of each name
+  made_there : (P : View → Type 0) (configs : List Config) (place : ℕ)
+      → AllByRecursion (λ (config : Config). P (view_given programs config)) configs
+      → place < length configs → P (unwrap_or (option_and_then (λ (node : Node). node.server)
+      (slice_get (map (new_node programs) configs) place)) no_view)
+  made_there P [] place all within = absurd (omega (arith, within))
+  made_there P (config ∷ configs) zero all within = all.0
+  made_there P (config ∷ configs) (suc place) all within =
+      made_there P configs place all.1 (omega (arith, within))
 
--- the server at a place that was found
-abbrev seen : List Config → Option ℕ → View
-seen configs o = unwrap_or (option_and_then (λ (node : Node). node.server)
-    (option_and_then (node_at (made_of configs)) o)) no_view
+  -- the server at a place that was found
+  abbrev seen : List Config → Option ℕ → View
+  seen configs o = unwrap_or (option_and_then (λ (node : Node). node.server)
+      (option_and_then (node_at (made_of programs configs)) o)) no_view
 
-made_at : (P : View → Type 0) (configs : List Config) (server : Name)
-    → AllByRecursion (λ (config : Config). P (made_view config)) configs
-    → IsAmong (map config_name configs) server → P (view_at (made_of configs) server)
-made_at P configs server all among = by (server_place (made_of configs) server) refl
-  where
-    by : (o : Option ℕ) → server_place (made_of configs) server ≡ o
-        → P (seen configs (server_place (made_of configs) server))
-    by None is = absurd (true≢false
-        (sym (sym (ap is_some is) ∙ placed_if (map config_name configs) server ∙ among)))
-    by (Some place) is = subst (λ o. P (seen configs o)) (sym is)
-        (made_there P configs place all
-        (subst (λ n. place < n) (length-map configs config_name) (position-Some
-        (λ (known : Name). same known server) (map config_name configs) place [] is).0))
+  made_at : (P : View → Type 0) (configs : List Config) (server : Name)
+      → AllByRecursion (λ (config : Config). P (view_given programs config)) configs
+      → IsAmong (map config_name configs) server → P (view_at (made_of programs configs) server)
+  made_at P configs server all among = by (server_place (made_of programs configs) server) refl
+    where
+      by : (o : Option ℕ) → server_place (made_of programs configs) server ≡ o
+          → P (seen configs (server_place (made_of programs configs) server))
+      by None is = absurd (true≢false
+          (sym (sym (ap is_some is) ∙ placed_if (map config_name configs) server ∙ among)))
+      by (Some place) is = subst (λ o. P (seen configs o)) (sym is)
+          (made_there P configs place all
+          (subst (λ n. place < n) (length-map configs config_name) (position-Some
+          (λ (known : Name). same known server) (map config_name configs) place [] is).0))
 
-all_new : (configs : List Config)
-    → AllByRecursion (λ (config : Config). IsNewServer (made_view config)) configs
-all_new [] = tt
-all_new (config ∷ configs) =
-    (record { no_rows = refl; no_ends = refl; no_clients = refl; nobody = refl }, all_new configs)
+  all_new : (configs : List Config)
+      → AllByRecursion (λ (config : Config). IsNewServer (view_given programs config)) configs
+  all_new [] = tt
+  all_new (config ∷ configs) =
+      (record { no_rows = refl; no_ends = refl; no_clients = refl; nobody = refl }, all_new configs)
 
 -- ---- all of it
 
-pub made_is_new : (configs ordered : List Config) → configs_fault configs ≡ None
-    → IsPermutation configs ordered → IsNew (made_of ordered)
-made_is_new configs ordered none ones = record {
+pub made_is_new : (programs : Name → Programs) (configs ordered : List Config)
+    → configs_fault configs ≡ None → IsPermutation configs ordered
+    → IsNew (made_of programs ordered)
+made_is_new programs configs ordered none ones = record {
   set_up = record {
-    named = nodes_named ordered;
+    named = nodes_named programs ordered;
     once = ordered_once configs ordered ones (without_fault configs none).twice_none;
     few = subst (λ n. n ≤ 256) (sym (length-map ordered config_name))
         (ordered_few configs ordered none ones);
-    configured = λ server among. made_at IsConfigured ordered server
-        (all_configured ordered (sym (list_any-IsPermutation is_bad_config configs ordered ones)
+    configured = λ server among. made_at programs IsConfigured ordered server
+        (all_configured programs ordered
+        (sym (list_any-IsPermutation is_bad_config configs ordered ones)
         ∙ (without_fault configs none).bad_none)) among;
   };
-  servers = λ server among. made_at IsNewServer ordered server (all_new ordered) among;
-  queues = none_queued ordered;
+  servers =
+      λ server among. made_at programs IsNewServer ordered server (all_new programs ordered) among;
+  queues = none_queued programs ordered;
   links = refl;
   homes = refl;
   received = refl;
@@ -253,10 +271,11 @@ made_with forest nodes = record {
 }
 
 -- a network of their forest and their nodes is what they make
-pub network_made : (ordered configs : List Config) (forest : Forest) (nodes : List Node)
-    → configs ≡ ordered → forest ≡ record { names = map config_name configs; links = [] }
-    → nodes ≡ map new_node ordered → made_with forest nodes ≡ made_of ordered
-network_made ordered configs forest nodes ones named placed =
+pub network_made : (programs : Name → Programs) (ordered configs : List Config)
+    (forest : Forest) (nodes : List Node) → configs ≡ ordered
+    → forest ≡ record { names = map config_name configs; links = [] }
+    → nodes ≡ map (new_node programs) ordered → made_with forest nodes ≡ made_of programs ordered
+network_made programs ordered configs forest nodes ones named placed =
     ap (λ f. made_with f nodes)
     (named ∙ ap (λ cs. record { names = map config_name cs; links = [] }) ones)
     ∙ ap (made_with (record { names = map config_name ordered; links = [] })) placed

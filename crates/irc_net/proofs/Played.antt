@@ -7,6 +7,7 @@ use Rattle.std.specs.List.{AllByRecursion}
 use Rattle.std.proofs.Math.Bool.{false≢true}
 use Rattle.std.proofs.lemmas.Option.{none-some, same_Some}
 use Rattle.irc_relay.specs.Links.{Name}
+use Rattle.irc_routes.specs.declared.programs.Programs.{Programs}
 use Rattle.irc_server.specs.declared.config.Config.{Config}
 use Rattle.irc_world.specs.Refused.{Refusal, link_refused, no_such_client, no_such_server}
 use Rattle.irc_world.specs.Refused.{not_linked}
@@ -84,21 +85,21 @@ bytes_stay old new from to count fault (calls.taking_by_failed failed) refusal =
 
 -- ---- one step
 
-module _ (configs : List Config) where
-  nothing_more : (items : List Item) (net : NetView) → HasRun configs items net
-      → HasRun configs (items ++ []) net
+module _ (programs : Name → Programs) (configs : List Config) where
+  nothing_more : (items : List Item) (net : NetView) → HasRun programs configs items net
+      → HasRun programs configs (items ++ []) net
   nothing_more items net runs =
-      subst (λ more. HasRun configs more net) (sym (append-nil items)) runs
+      subst (λ more. HasRun programs configs more net) (sym (append-nil items)) runs
 
-  stays_so : (items : List Item) (old new : NetView) → HasRun configs items old → old ≡ new
-      → HasRun configs (items ++ []) new
+  stays_so : (items : List Item) (old new : NetView) → HasRun programs configs items old → old ≡ new
+      → HasRun programs configs (items ++ []) new
   stays_so items old new runs same =
-      subst (HasRun configs (items ++ [])) same (nothing_more items old runs)
+      subst (HasRun programs configs (items ++ [])) same (nothing_more items old runs)
 
   step_runs : (items : List Item) (old new : NetView) (step : Step) (answer : StepAnswer)
-      → HasRun configs items old → IsStep old step answer new
+      → HasRun programs configs items old → IsStep old step answer new
       → AllByRecursion IsItemWithin (item_taken step answer)
-      → HasRun configs (items ++ item_taken step answer) new
+      → HasRun programs configs (items ++ item_taken step answer) new
   step_runs items old new (Give item) (Given answer) runs is within =
       given runs within.0 is refl
   step_runs items old new (Give item) (Refused fault) runs is within =
@@ -145,13 +146,15 @@ all_parts [] rest all = (tt, all)
 all_parts (item ∷ front) rest all =
     let parts = all_parts front rest all.1 in ((all.0, parts.0), parts.1)
 
-plays_run : (configs : List Config) (items : List Item) {old new : NetView} {steps : List Step}
-    {answers : List StepAnswer} → HasRun configs items old → PlaysSteps old steps answers new
+plays_run : (programs : Name → Programs) (configs : List Config) (items : List Item)
+    {old new : NetView} {steps : List Step}
+    {answers : List StepAnswer} → HasRun programs configs items old
+    → PlaysSteps old steps answers new
     → AllByRecursion IsItemWithin (items_taken steps answers)
-    → HasRun configs (items ++ items_taken steps answers) new
-plays_run configs items {new = new} runs calls.none_yet within =
-    nothing_more configs items new runs
-plays_run configs items {new = new} runs
+    → HasRun programs configs (items ++ items_taken steps answers) new
+plays_run programs configs items {new = new} runs calls.none_yet within =
+    nothing_more programs configs items new runs
+plays_run programs configs items {new = new} runs
     (calls.then_one {between = between} {steps = steps} {all = all} {answers = answers}
     {more = more} step answer before is all_are more_are) within =
     let taken_are : items_taken all more ≡ items_taken steps answers ++ item_taken step answer =
@@ -159,11 +162,11 @@ plays_run configs items {new = new} runs
     ∙ one_behind steps answers step answer (as_many before) in
     let parts = all_parts (items_taken steps answers) (item_taken step answer)
     (subst (AllByRecursion IsItemWithin) taken_are within) in
-    subst (λ more. HasRun configs more new)
+    subst (λ more. HasRun programs configs more new)
     (append_assoc items (items_taken steps answers) (item_taken step answer)
     ∙ ap (λ more. items ++ more) (sym taken_are))
-    (step_runs configs (items ++ items_taken steps answers) between new step answer
-    (plays_run configs items runs before parts.0) is parts.1)
+    (step_runs programs configs (items ++ items_taken steps answers) between new step answer
+    (plays_run programs configs items runs before parts.0) is parts.1)
 
 -- ---- a play that stops
 
@@ -192,12 +195,14 @@ play_stops old new steps fault (calls.stops_at stops) =
     breaks_it stops.between new stops.step fault stops.breaks stops.is_want
 play_stops old new steps fault (calls.answers_want_memory failed) = failed
 
-play_runs : (configs : List Config) (items : List Item) (old new : NetView) (steps : List Step)
-    (answers : List StepAnswer) → HasRun configs items old → ArePlayed old steps (Ok answers) new
+play_runs : (programs : Name → Programs) (configs : List Config) (items : List Item)
+    (old new : NetView) (steps : List Step)
+    (answers : List StepAnswer) → HasRun programs configs items old
+    → ArePlayed old steps (Ok answers) new
     → AllByRecursion IsItemWithin (items_taken steps answers)
-    → HasRun configs (items ++ items_taken steps answers) new
-play_runs configs items old new steps answers runs (calls.plays_them plays) within =
-    plays_run configs items runs plays within
+    → HasRun programs configs (items ++ items_taken steps answers) new
+play_runs programs configs items old new steps answers runs (calls.plays_them plays) within =
+    plays_run programs configs items runs plays within
 
 pub play_is_run : PlayIsRun
 play_is_run = record { runs = play_runs; stops = play_stops }

@@ -4,6 +4,7 @@ use Rattle.std.proofs.Common.{◌++◌, option_map, refl, sym, ◌∙◌, ap, su
 use Rattle.std.specs.Option.{option_and_then, option_map_or}
 use Rattle.irc_relay.specs.Links.{Name}
 use Rattle.irc_relay.specs.Relay.{IsFront}
+use Rattle.irc_routes.specs.declared.programs.Programs.{Programs}
 use Rattle.irc_server.specs.declared.config.Config.{Config}
 use Rattle.irc_world.specs.Owed.{owed_by_network, world_of}
 use Rattle.irc_world.specs.Refused.{refused}
@@ -36,71 +37,79 @@ use Rattle.irc_pipes.specs.Pipes.{has_byte, through_line_feed}
 
 -- ---- what it has run to
 
-record IsRun (configs : List Config) (items : List Item) (net : ByteNetwork) : Type 0 where
+record IsRun (programs : Name → Programs) (configs : List Config) (items : List Item)
+    (net : ByteNetwork) : Type 0 where
   kept : IsKeptSound net
-  settings : AreSettingsOf configs (settings_of net.network)
+  settings : AreSettingsOf programs configs (settings_of net.network)
   given_so : net.network.items ≡ items
 
-record IsStanding (configs : List Config) (items : List Item) (net : NetView) : Type 0 where
+record IsStanding (programs : Name → Programs) (configs : List Config) (items : List Item)
+    (net : NetView) : Type 0 where
   stands : net.failed ≡ false
-  is_run : IsRun configs items net.network
+  is_run : IsRun programs configs items net.network
 
-module _ (stays : StaysKept) (set_up : SettingsStay) (configs : List Config) where
+module _ (stays : StaysKept) (set_up : SettingsStay) (programs : Name → Programs)
+    (configs : List Config) where
   run_at : {items : List Item} {new : NetView} {last : ByteNetwork} → new ≡ standing last
-      → IsRun configs items last → IsStanding configs items new
+      → IsRun programs configs items last → IsStanding programs configs items new
   run_at {items = items} after is_run =
-      subst (IsStanding configs items) (sym after) (record { stands = refl; is_run = is_run })
+      subst (IsStanding programs configs items) (sym after)
+      (record { stands = refl; is_run = is_run })
 
-  stays_run : {items : List Item} (old new : ByteNetwork) → IsRun configs items old
-      → IsKeptSound new → StaysSetUp old new old.network.items → IsRun configs items new
+  stays_run : {items : List Item} (old new : ByteNetwork) → IsRun programs configs items old
+      → IsKeptSound new → StaysSetUp old new old.network.items → IsRun programs configs items new
   stays_run old new before kept stay = record {
     kept = kept;
-    settings = subst (AreSettingsOf configs) (sym stay.settings) before.settings;
+    settings = subst (AreSettingsOf programs configs) (sym stay.settings) before.settings;
     given_so = stay.items_are ∙ before.given_so;
   }
 
-  come_run : {items : List Item} (net : ByteNetwork) (from to count : ℕ) → IsRun configs items net
-      → IsRun configs items (bytes_come from to count (begun net)).state
+  come_run : {items : List Item} (net : ByteNetwork) (from to count : ℕ)
+      → IsRun programs configs items net
+      → IsRun programs configs items (bytes_come from to count (begun net)).state
   come_run net from to count before =
       stays_run net (bytes_come from to count (begun net)).state before
       (stays.come net from to count before.kept) (set_up.come net from to count)
 
-  made_run : (net : NetView) → IsNetMade configs (Ok net) → IsStanding configs [] net
+  made_run : (net : NetView) → IsNetMade programs configs (Ok net)
+      → IsStanding programs configs [] net
   made_run net so = record {
     stands = so.1;
     is_run = record {
       kept = subst IsKeptSound (sym so.2.network_is)
-          (stays.new (made_of so.2.ordered) (made_is_new configs so.2.ordered so.0 so.2.same_ones));
-      settings = (set_up.made configs net.network so.2).settings;
-      given_so = (set_up.made configs net.network so.2).items_are;
+          (stays.new (made_of programs so.2.ordered)
+          (made_is_new programs configs so.2.ordered so.0 so.2.same_ones));
+      settings = (set_up.made programs configs net.network so.2).settings;
+      given_so = (set_up.made programs configs net.network so.2).items_are;
     };
   }
 
   given_run : {items : List Item} (old new : NetView) (item : Item) (answer : Answer)
-      → IsGiven old item (Ok answer) new → IsItemWithin item → IsStanding configs items old
-      → IsStanding configs (items ++ item ∷ []) new
+      → IsGiven old item (Ok answer) new → IsItemWithin item → IsStanding programs configs items old
+      → IsStanding programs configs (items ++ item ∷ []) new
   given_run old new item answer (given_it stands gives) within before =
       let stay = set_up.given old.network item in
       run_at gives.after (record {
         kept = stays.given old.network item before.is_run.kept gives.none within;
-        settings = subst (AreSettingsOf configs) (sym stay.settings) before.is_run.settings;
+        settings =
+            subst (AreSettingsOf programs configs) (sym stay.settings) before.is_run.settings;
         given_so = stay.items_are ∙ ap (λ items. items ++ item ∷ []) before.is_run.given_so;
       })
 
   taken_run : {items : List Item} (old new : NetView) (from to : Name) (count came : ℕ)
       (receipts : List Receipt) → BytesTaken old from to count (Ok (came, receipts)) new
-      → IsStanding configs items old → IsStanding configs items new
+      → IsStanding programs configs items old → IsStanding programs configs items new
   taken_run {items = items} old new from to count came receipts (takes_them stands takes) before =
       run_at takes.after (by (link_places old.network.network from to))
     where
-      by : (o : Option LinkPlaces) → IsRun configs items
+      by : (o : Option LinkPlaces) → IsRun programs configs items
           (option_map_or (piece_between count old.network) o (begun old.network)).state
       by None = before.is_run
       by (Some ends) = come_run old.network ends.near ends.far count before.is_run
 
   delivered_run : {items : List Item} (old new : NetView) (from to : Name) (was_taken : Bool)
       (receipts : List Receipt) → IsDelivered old from to (Ok (was_taken, receipts)) new
-      → IsStanding configs items old → IsStanding configs items new
+      → IsStanding programs configs items old → IsStanding programs configs items new
   delivered_run {items = items} old new from to was_taken receipts
       (delivers_it stands none delivers) before =
       by (link_places old.network.network from to) delivers
@@ -110,19 +119,19 @@ module _ (stays : StaysKept) (set_up : SettingsStay) (configs : List Config) whe
 
       took : (ends : LinkPlaces) (b : Bool)
           → Delivers (if b then Some (piece_between (count ends) old.network ends)
-          else None) old.network was_taken receipts new → IsStanding configs items new
+          else None) old.network was_taken receipts new → IsStanding programs configs items new
       took ends false so = run_at so.2 before.is_run
       took ends true so =
           run_at so.2 (come_run old.network ends.near ends.far (count ends) before.is_run)
 
       by : (o : Option LinkPlaces) → Delivers (option_and_then (line_between old.network) o)
-          old.network was_taken receipts new → IsStanding configs items new
+          old.network was_taken receipts new → IsStanding programs configs items new
       by None so = run_at so.2 before.is_run
       by (Some ends) so = took ends (has_byte (pipe_between old.network ends)) so
 
   settled_run : {items : List Item} (old new : NetView) (counted : ℕ) (receipts : List Receipt)
-      → IsSettled old (Ok (counted, receipts)) new → IsStanding configs items old
-      → IsStanding configs items new
+      → IsSettled old (Ok (counted, receipts)) new → IsStanding programs configs items old
+      → IsStanding programs configs items new
   settled_run old new counted receipts (settles_it stands settles) before =
       let so : Settles old.network counted receipts (standing settles.last.state) =
       subst (Settles old.network counted receipts) settles.after settles in
@@ -130,12 +139,12 @@ module _ (stays : StaysKept) (set_up : SettingsStay) (configs : List Config) whe
       (stays.settled old.network settles.last.state counted receipts before.is_run.kept so)
       (set_up.settled old.network settles.last.state counted receipts so))
 
-  run : {items : List Item} {net : NetView} → HasRun configs items net
-      → IsStanding configs items net
+  run : {items : List Item} {net : NetView} → HasRun programs configs items net
+      → IsStanding programs configs items net
   run {net = net} (made so) = made_run net so
   run {net = new}
       (given {old = old} {item = item} {answer = answer} before within gives items_are) =
-      subst (λ items. IsStanding configs items new) (sym items_are)
+      subst (λ items. IsStanding programs configs items new) (sym items_are)
       (given_run old new item answer gives within (run before))
   run {net = new} (taken {old = old} {from = from} {to = to} {count = count} {taken = came}
       {receipts = receipts} before takes) =
@@ -147,7 +156,8 @@ module _ (stays : StaysKept) (set_up : SettingsStay) (configs : List Config) whe
       settled_run old new counted receipts settles (run before)
 
 pub every_run : StaysKept → SettingsStay → EveryRunIsKept
-every_run stays set_up configs items net has_run = (run stays set_up configs has_run).is_run.kept
+every_run stays set_up programs configs items net has_run =
+    (run stays set_up programs configs has_run).is_run.kept
 
 -- ---- that is one room
 
@@ -170,8 +180,8 @@ at_rest_fault net item rest = ap (λ b. if b
     then option_map fault_by (fault_at_rest net.network item) else Some fault.NotAtRest) rest
 
 pub every_network : AreOneRoom → EveryNetworkIsOneRoom
-every_network laws configs items net has_run =
-    let so = run laws.stays laws.set_up configs has_run in
+every_network laws programs configs items net has_run =
+    let so = run laws.stays laws.set_up programs configs has_run in
     let kept = so.is_run.kept in
     let same = so.is_run.given_so in
     let settings = settings_of net.network.network in

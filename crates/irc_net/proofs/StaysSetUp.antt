@@ -9,6 +9,8 @@ use Rattle.irc_batch.specs.Batches.{Sent, line_to, end_of, line_on, end_of_link}
 use Rattle.irc_line.specs.Reading.{read_of}
 use Rattle.irc_server.specs.Served.{IsSetAlike, ReadEvent, ServedKeepsItsSetting, link_says}
 use Rattle.irc_server.specs.Served.{served}
+use Rattle.irc_relay.specs.Links.{Name}
+use Rattle.irc_routes.specs.declared.programs.Programs.{Programs}
 use Rattle.irc_server.specs.declared.config.Config.{Config}
 use Rattle.irc_stage.specs.View.{View}
 use Rattle.irc_world.specs.Stepping.{Item}
@@ -242,21 +244,22 @@ given_stays keeps kept net item = record {
 
 -- ---- a new network
 
-made_alike : (configs : List Config)
-    → filter_map setting_at (map new_node configs) ≡ map setting_given configs
-made_alike [] = refl
-made_alike (config ∷ configs) =
-    ap (λ settings. setting_given config ∷ settings) (made_alike configs)
+made_alike : (programs : Name → Programs) (configs : List Config) → filter_map setting_at
+    (map (new_node programs) configs) ≡ map (setting_given programs) configs
+made_alike programs [] = refl
+made_alike programs (config ∷ configs) =
+    ap (λ settings. setting_given programs config ∷ settings) (made_alike programs configs)
 
-begins_set_up : (configs : List Config) (net : ByteNetwork) → IsMadeOf configs net
-    → BeginsSetUp configs net
-begins_set_up configs net made = record {
+begins_set_up : (programs : Name → Programs) (configs : List Config) (net : ByteNetwork)
+    → IsMadeOf programs configs net → BeginsSetUp programs configs net
+begins_set_up programs configs net made = record {
   settings = record {
     ordered = made.ordered;
     same_ones = made.same_ones;
     in_order = made.in_order;
     settings_are =
-        ap (λ (n : ByteNetwork). settings_of n.network) made.network_is ∙ made_alike made.ordered;
+        ap (λ (n : ByteNetwork). settings_of n.network) made.network_is
+        ∙ made_alike programs made.ordered;
   };
   items_are = ap (λ (n : ByteNetwork). n.network.items) made.network_is;
 }

@@ -1,6 +1,7 @@
 -- What holds of networks, and of what their calls answer.
 use Rattle.std.specs.Prelude.{◌≡◌, ℕ, Bool, None, Ok, List, [], ◌∷◌, ◌++◌}
 use Rattle.irc_relay.specs.Links.{Name}
+use Rattle.irc_routes.specs.declared.programs.Programs.{Programs}
 use Rattle.irc_world.specs.Stepping.{Item}
 use Rattle.irc_world.specs.WithinLimits.{IsItemWithin}
 use Rattle.irc_items.specs.SetUp.{settings_of, IsNew}
@@ -40,8 +41,9 @@ pub record AnswersAreReceived : Type 0 where
 -- ---- how servers are set up, and what was given
 
 -- servers as their configurations have them, and no item yet
-pub record BeginsSetUp (configs : List Config) (net : ByteNetwork) : Type 0 where
-  pub settings : AreSettingsOf configs (settings_of net.network)
+pub record BeginsSetUp (programs : Name → Programs) (configs : List Config)
+    (net : ByteNetwork) : Type 0 where
+  pub settings : AreSettingsOf programs configs (settings_of net.network)
   pub items_are : net.network.items ≡ []
 
 -- servers are set up as they were, and these are the items of which the network tells
@@ -53,8 +55,8 @@ pub record StaysSetUp (old new : ByteNetwork) (items : List Item) : Type 0 where
 -- given, comes or settles. An item that is given stands behind those before it, and nothing else
 -- changes them.
 pub record SettingsStay : Type 0 where
-  pub made : (configs : List Config) (net : ByteNetwork) → IsMadeOf configs net
-      → BeginsSetUp configs net
+  pub made : (programs : Name → Programs) (configs : List Config) (net : ByteNetwork)
+      → IsMadeOf programs configs net → BeginsSetUp programs configs net
   pub given : (net : ByteNetwork) (item : Item)
       → StaysSetUp net (item_given item net).state (net.network.items ++ item ∷ [])
   pub come : (net : ByteNetwork) (from to count : ℕ)
@@ -86,13 +88,16 @@ KeptIsOwed = (net : ByteNetwork) (client : ℕ) → IsKeptSound net
 
 -- ---- all of it
 
--- Whatever a network of some configurations has run to is kept sound.
+-- Whatever a network of some configurations has run to is kept sound, whichever of its servers have
+-- what programs expect.
 abbrev pub EveryRunIsKept : Type 0
-EveryRunIsKept = (configs : List Config) (items : List Item) (net : NetView)
-    → HasRun configs items net → IsKeptSound net.network
+EveryRunIsKept =
+    (programs : Name → Programs) (configs : List Config) (items : List Item) (net : NetView)
+    → HasRun programs configs items net → IsKeptSound net.network
 
 -- Whatever was given to a network of some configurations, and however lines were delivered, it is
--- one room.
+-- one room. Some servers may have what programs expect, and others not.
 abbrev pub EveryNetworkIsOneRoom : Type 0
-EveryNetworkIsOneRoom = (configs : List Config) (items : List Item) (net : NetView)
-    → HasRun configs items net → IsOneRoomOf configs items net
+EveryNetworkIsOneRoom =
+    (programs : Name → Programs) (configs : List Config) (items : List Item) (net : NetView)
+    → HasRun programs configs items net → IsOneRoomOf programs configs items net

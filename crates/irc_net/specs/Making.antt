@@ -7,12 +7,13 @@ use Rattle.std.specs.FinMap.{empty}
 use Rattle.std.specs.Ordering.{nat_cmp}
 use Rattle.std.specs.Cmp.Lexicographic.{slice_cmp}
 use Rattle.irc_relay.specs.Links.{Name, same}
-use Rattle.irc_routes.specs.About.{about_of}
-use Rattle.irc_server.specs.Configuring.{config_fault, made_view}
+use Rattle.irc_routes.specs.About.{about_of, serves}
+use Rattle.irc_routes.specs.declared.programs.Programs.{Programs}
+use Rattle.irc_server.specs.Configuring.{config_fault, served_view}
 use Rattle.irc_server.specs.declared.config.Config.{Config}
 use Rattle.irc_server.specs.declared.config.ConfigFault.{ConfigFault}
 use Rattle.irc_server.specs.declared.config.ConfigFault.TheVariants as one
-use Rattle.irc_stage.specs.View.{known_peer}
+use Rattle.irc_world.specs.OneServer.{configured}
 use Rattle.irc_world.specs.World.{Setting}
 use Rattle.irc_net.specs.declared.making.NetConfigFault.{NetConfigFault}
 use Rattle.irc_net.specs.declared.making.NetConfigFault.TheVariants.{BadName, DoubleName, TooMany}
@@ -59,14 +60,21 @@ configs_fault configs =
 
 -- ---- the network that they make
 
-abbrev pub new_node : Config → Node
-new_node config = record { server = Some (made_view config); queues = empty }
+-- Which servers' clients have what programs expect: those of all, or of none. It may be any
+-- function of their names.
+abbrev pub everywhere : Programs → Name → Programs
+everywhere programs server = programs
+
+-- links tell it who is away
+abbrev pub new_node : (Name → Programs) → Config → Node
+new_node programs config =
+    record { server = Some (served_view (programs (config_name config)) config); queues = empty }
 
 -- servers in this order: no link, and nobody connected
-abbrev pub made_of : List Config → Network
-made_of ordered = record {
+abbrev pub made_of : (Name → Programs) → List Config → Network
+made_of programs ordered = record {
   names = map config_name ordered;
-  nodes = map new_node ordered;
+  nodes = map (new_node programs) ordered;
   links = [];
   homes = [];
   received = [];
@@ -75,30 +83,29 @@ made_of ordered = record {
 }
 
 -- how the server of a configuration is set up
-abbrev pub setting_given : Config → Setting
-setting_given config = record {
-  name = config_name config;
-  about = about_of config.own;
-  peers = map known_peer config.peers.items;
-}
+abbrev pub setting_given : (Name → Programs) → Config → Setting
+setting_given programs config =
+    configured (serves (programs (config_name config)) (about_of config.own)) config
 
 -- the settings of servers with these configurations, in order of name
-pub record AreSettingsOf (configs : List Config) (settings : List Setting) : Type 0 where
+pub record AreSettingsOf (programs : Name → Programs) (configs : List Config)
+    (settings : List Setting) : Type 0 where
   pub ordered : List Config
   pub same_ones : IsPermutation configs ordered
   pub in_order : IsSortedByKey config_name (slice_cmp nat_cmp) ordered
-  pub settings_are : settings ≡ map setting_given ordered
+  pub settings_are : settings ≡ map (setting_given programs) ordered
 
 -- in order of name, and nothing is on its way
-pub record IsMadeOf (configs : List Config) (net : ByteNetwork) : Type 0 where
+pub record IsMadeOf (programs : Name → Programs) (configs : List Config)
+    (net : ByteNetwork) : Type 0 where
   pub ordered : List Config
   pub same_ones : IsPermutation configs ordered
   pub in_order : IsSortedByKey config_name (slice_cmp nat_cmp) ordered
-  pub network_is : net ≡ no_pipes (made_of ordered)
+  pub network_is : net ≡ no_pipes (made_of programs ordered)
 
 -- what comes of configurations
-abbrev pub IsNetMade : List Config → Result NetView NetConfigFault → Type 0
-IsNetMade configs (Ok net) =
-    (configs_fault configs ≡ None) × (net.failed ≡ false) × IsMadeOf configs net.network
-IsNetMade configs (Err Memory) = configs_fault configs ≡ None
-IsNetMade configs (Err fault) = configs_fault configs ≡ Some fault
+abbrev pub IsNetMade : (Name → Programs) → List Config → Result NetView NetConfigFault → Type 0
+IsNetMade programs configs (Ok net) = (configs_fault configs ≡ None) × (net.failed ≡ false)
+    × IsMadeOf programs configs net.network
+IsNetMade programs configs (Err Memory) = configs_fault configs ≡ None
+IsNetMade programs configs (Err fault) = configs_fault configs ≡ Some fault

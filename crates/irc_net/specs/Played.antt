@@ -1,6 +1,8 @@
 -- What is played on a network has run.
 use Rattle.std.specs.Prelude.{◌≡◌, true, Ok, Err, List, [], ◌∷◌, ◌++◌}
 use Rattle.std.specs.List.{AllByRecursion}
+use Rattle.irc_relay.specs.Links.{Name}
+use Rattle.irc_routes.specs.declared.programs.Programs.{Programs}
 use Rattle.irc_server.specs.declared.config.Config.{Config}
 use Rattle.irc_world.specs.Stepping.{Item}
 use Rattle.irc_world.specs.WithinLimits.{IsItemWithin}
@@ -26,9 +28,11 @@ items_taken steps answers = []
 -- A play is a run: what has run, and is played steps that are all answered, has run on, by those of
 -- their items that were taken. A play that stops leaves a network that has failed.
 pub record PlayIsRun : Type 0 where
-  pub runs : (configs : List Config) (items : List Item) (old new : NetView) (steps : List Step)
-      (answers : List StepAnswer) → HasRun configs items old → ArePlayed old steps (Ok answers) new
+  pub runs : (programs : Name → Programs) (configs : List Config) (items : List Item)
+      (old new : NetView) (steps : List Step)
+      (answers : List StepAnswer) → HasRun programs configs items old
+      → ArePlayed old steps (Ok answers) new
       → AllByRecursion IsItemWithin (items_taken steps answers)
-      → HasRun configs (items ++ items_taken steps answers) new
+      → HasRun programs configs (items ++ items_taken steps answers) new
   pub stops : (old new : NetView) (steps : List Step) (fault : NetFault)
       → ArePlayed old steps (Err fault) new → new.failed ≡ true

@@ -5,12 +5,13 @@ ghost use Rattle.std.specs.List.Sorted.{IsPermutation, IsSortedByKey};
 ghost use Rattle.std.specs.Cmp.Lexicographic.{slice_cmp};
 ghost use Rattle.std.specs.Ordering.{nat_cmp};
 ghost use Rattle.irc_net.specs.Making.{config_name, configs_fault, has_name_twice, is_bad_config};
-ghost use Rattle.irc_net.specs.Making.{is_config_of, is_double, new_node};
+ghost use Rattle.irc_net.specs.Making.{everywhere, is_config_of, is_double, new_node};
 ghost use Rattle.irc_net.specs.Loops.Ordering.{IsServerConfig, new_forest};
 
 use irc_forest::{Forest, MAX_SERVERS};
 use irc_names::ServerName;
 use irc_network::Node;
+use irc_routes::Programs;
 use irc_server::{Config, ConfigFault, Server, config_fault};
 use std::alloc::{AllocError, Global};
 use std::cmp::Ordering;
@@ -150,21 +151,23 @@ fn name_of(config: &Config) -> ServerName
 pub(crate) fn nodes_of(
     alloc: Global,
     configs: Vec<Config, Global>,
+    programs: Programs,
 ) -> Result<Vec<Node, Global>, AllocError>
-    ensures { IfOk result (λ nodes. nodes.items ≡ map new_node configs.items) }
+    ensures { IfOk result
+        (λ nodes. nodes.items ≡ map (new_node (everywhere programs)) configs.items) }
 {
     let mut nodes = Vec::new(alloc);
     let mut rest = configs.into_iter();
     while let Some(config) = rest.next() {
-        nodes.push(node_of(alloc, config)?)?;
+        nodes.push(node_of(alloc, config, programs)?)?;
     }
     Ok(nodes)
 }
 
-fn node_of(alloc: Global, config: Config) -> Result<Node, AllocError>
-    ensures { IfOk result (λ node. node ≡ new_node config) }
+fn node_of(alloc: Global, config: Config, programs: Programs) -> Result<Node, AllocError>
+    ensures { IfOk result (λ node. node ≡ new_node (everywhere programs) config) }
 {
-    match Server::new(alloc, config) {
+    match Server::serving(alloc, config, programs) {
         Ok(server) => Ok(Node::new(alloc, server)),
         Err(_) => Err(AllocError),
     }

@@ -2,12 +2,13 @@
 ghost use Rattle.std.specs.Prelude.{◌≡◌, true, false, [], ◌∷◌, ◌++◌, map, IfOk, OnOk};
 ghost use Rattle.std.specs.Option.{option_map};
 ghost use Rattle.irc_network.specs.ByteNetwork.{is_byte_rest};
+ghost use Rattle.irc_routes.specs.declared.programs.Programs.TheVariants.{Off};
 ghost use Rattle.irc_net.specs.declared.step.Step.TheVariants.{Bytes, Deliver, Give, Settle};
 ghost use Rattle.irc_net.specs.Calls.{step_refused, ArePlayable, ArePlayed, BytesTaken};
 ghost use Rattle.irc_net.specs.Calls.{IsDelivered, IsGivable, IsGiven, IsPlayable, IsSettled};
 ghost use Rattle.irc_net.specs.Calls.{IsStepDone};
 ghost use Rattle.irc_net.specs.Faults.{deliver_fault, do_agree, fault_by, item_fault};
-ghost use Rattle.irc_net.specs.Making.{IsNetMade};
+ghost use Rattle.irc_net.specs.Making.{IsNetMade, everywhere};
 ghost use Rattle.irc_net.specs.Loops.Answering.{KeepsAnswer};
 ghost use Rattle.irc_net.specs.Loops.Coming.{AreLinkedEnds, HaveComeTo};
 ghost use Rattle.irc_net.specs.Loops.Settling.{HasComeToRest};
@@ -27,6 +28,7 @@ use irc_items::laws;
 use irc_line::Text;
 use irc_names::ServerName;
 use irc_network::{CallOutput, ClientNumber, History, Item, Kept, Network, Receipt, Refusal};
+use irc_routes::Programs;
 use irc_server::Config;
 use std::alloc::{AllocError, Global};
 use std::marker::Model;
@@ -80,13 +82,28 @@ impl Net<Kept> {
 }
 
 impl<H: History> Net<H> {
-    /// Servers that are not linked, and no client.
+    /// Servers that are not linked, and no client. Links tell who is away, and clients have the
+    /// commands of the profile alone.
     ///
     /// # Errors
     /// [`NetConfigFault`]s 1 to 3 for their causes in this order; [`NetConfigFault::Memory`] where
     /// memory runs out.
     pub fn new(alloc: Global, configs: Vec<Config, Global>) -> Result<Self, NetConfigFault>
-        ensures { IsNetMade configs.items result }
+        ensures { IsNetMade (everywhere Off) configs.items result }
+    {
+        Net::serving(alloc, configs, Programs::Off)
+    }
+
+    /// The same of servers whose clients all have what programs expect, or all not.
+    ///
+    /// # Errors
+    /// Those of [`Net::new`].
+    pub fn serving(
+        alloc: Global,
+        configs: Vec<Config, Global>,
+        programs: Programs,
+    ) -> Result<Self, NetConfigFault>
+        ensures { IsNetMade (everywhere programs) configs.items result }
     {
         crate::laws::networks_stay_sound();
         if let Some(fault) = configs_fault(&configs) {
@@ -94,7 +111,7 @@ impl<H: History> Net<H> {
         }
         let ordered = in_order(configs);
         let forest = forest_of(alloc, &ordered)?;
-        let nodes = nodes_of(alloc, ordered)?;
+        let nodes = nodes_of(alloc, ordered, programs)?;
         Ok(Net {
             alloc,
             failed: false,

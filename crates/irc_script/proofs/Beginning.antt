@@ -14,10 +14,12 @@ use Rattle.std.specs.declared.cmp.Ordering.TheVariants.{Less, Equal, Greater}
 use Rattle.std.proofs.lemmas.Bool.{and_from, or_from}
 use Rattle.irc_net.specs.ByteNetwork.{ByteNetwork}
 use Rattle.irc_net.specs.Whole.{no_pipes}
-use Rattle.irc_net.specs.Making.{IsMadeOf, config_name, new_node}
+use Rattle.irc_net.specs.Making.{IsMadeOf, config_name, everywhere, new_node}
 use Rattle.irc_net.specs.Network.{Network, Node}
 use Rattle.irc_relay.specs.Links.{Name}
+use Rattle.irc_routes.specs.About.{serves}
 use Rattle.irc_routes.specs.Known.{Known, alone_known}
+use Rattle.irc_routes.specs.declared.programs.Programs.TheVariants.{Off}
 use Rattle.irc_room.specs.Laws.{no_room}
 use Rattle.irc_net.specs.config.Config.{Config}
 use Rattle.irc_net.specs.View.{KnownPeer, known_peer}
@@ -80,17 +82,17 @@ node_of routes peers = record {
 }
 
 node_is : (names : List Name) (config : Config) → IsOwnConfig names config
-    → new_node config ≡ first_node names (config_name config)
+    → new_node (everywhere Off) config ≡ first_node names (config_name config)
 node_is names config own =
-    ap (λ about. node_of (alone_known (config_name config) about)
+    ap (λ about. node_of (alone_known (config_name config) (serves Off about))
     (map known_peer config.peers.items)) own.about
     ∙ ap (node_of (alone_known (config_name config) script_about)) own.peers
 
 nodes_are : (names : List Name) (configs : List Config) → AllByRecursion (IsOwnConfig names) configs
-    → map new_node configs ≡ map (first_node names) (map config_name configs)
+    → map (new_node (everywhere Off)) configs ≡ map (first_node names) (map config_name configs)
 nodes_are names [] all = refl
 nodes_are names (config ∷ configs) all =
-    ap (λ node. node ∷ map new_node configs) (node_is names config all.0)
+    ap (λ node. node ∷ map (new_node (everywhere Off)) configs) (node_is names config all.0)
     ∙ ap (λ nodes. first_node names (config_name config) ∷ nodes) (nodes_are names configs all.1)
 
 abbrev with_names : List Name → List Node → Network
@@ -105,7 +107,7 @@ with_names names nodes = record {
 }
 
 pub made_first : (names : List Name) (configs : List Config) (net : ByteNetwork)
-    → AreConfigured names names configs → IsMadeOf configs net → net ≡ first_net names
+    → AreConfigured names names configs → IsMadeOf (everywhere Off) configs net → net ≡ first_net names
 made_first names configs net are made =
     let named : IsPermutation names (map config_name made.ordered) =
     subst (λ ns. IsPermutation ns (map config_name made.ordered)) are.named

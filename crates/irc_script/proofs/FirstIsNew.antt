@@ -202,6 +202,7 @@ configured names server is =
     record {
       name = is;
       about = record { info = refl; created = omega arith };
+      told_away = refl;
       passwords = all_passwords server names;
     }
 

@@ -12,7 +12,8 @@ use Rattle.irc_net.specs.Whole.{no_pipes}
 use Rattle.irc_net.specs.Network.{Network, Node}
 use Rattle.irc_relay.specs.Links.{Name, same}
 use Rattle.irc_room.specs.Laws.{no_room}
-use Rattle.irc_routes.specs.About.{About, says}
+use Rattle.irc_routes.specs.About.{About, says, serves}
+use Rattle.irc_routes.specs.declared.programs.Programs.TheVariants.{Off}
 use Rattle.irc_routes.specs.Known.{alone_known}
 use Rattle.irc_net.specs.View.{KnownPeer, View}
 use Rattle.irc_net.specs.World.{Setting}
@@ -30,9 +31,13 @@ peer_of server other =
 abbrev pub peers_for : Name → List Name → List KnownPeer
 peers_for server names = filter_map (peer_of server) names
 
--- what each server of a script says of itself
+-- the texts of each server of a script
+abbrev pub script_texts : About
+script_texts = says (codes "Test server") (codes "2024-01-01")
+
+-- what each says of itself: links tell it who is away, and its clients have the profile alone
 abbrev pub script_about : About
-script_about = says (codes "Test server") (codes "2024-01-01")
+script_about = serves Off script_texts
 
 -- how the server of a name is set up
 abbrev pub script_setting : List Name → Name → Setting

@@ -26,29 +26,31 @@ use Rattle.irc_net.specs.Owed.{owed_by_network, world_of}
 use Rattle.irc_net.specs.Refused.{Refusal, refused}
 use Rattle.irc_net.specs.Stepping.{Item}
 use Rattle.irc_net.specs.World.{Setting, new_world}
+use Rattle.irc_routes.specs.declared.programs.Programs.{Programs}
 use Rattle.tests_networks.specs.Played.{Answered, AnswersAsOwed, Begins, GoesOn, IsWhole, PlaysOn}
 use Rattle.tests_networks.specs.Played.{ReadsOwed, RunsAreOwed, TookFew}
 
 -- ---- what is done
 
-pub begins : (configs : List Config) (result : Result NetView NetConfigFault)
-    → IsNetMade configs result → Begins configs result
-begins configs (Ok net) so = made so
-begins configs (Err why) so = tt
+pub begins : (programs : Name → Programs) (configs : List Config)
+    (result : Result NetView NetConfigFault)
+    → IsNetMade programs configs result → Begins programs configs result
+begins programs configs (Ok net) so = made so
+begins programs configs (Err why) so = tt
 
 pub plays_on : (old new : NetView) (item : Item) (result : Result Answer NetFault)
     → IsGiven old item result new → PlaysOn old item result new
-plays_on old new item (Ok answer) gives = λ within configs items run. given run within gives refl
+plays_on old new item (Ok answer) gives = λ within programs configs items run. given run within gives refl
 plays_on old new item (Err why) gives = tt
 
 pub came : (old new : NetView) (from to : Name) (count taken_now : ℕ) (receipts : List Receipt)
     → BytesTaken old from to count (Ok (taken_now, receipts)) new → GoesOn old new
-came old new from to count taken_now receipts takes = λ configs items run. taken run takes
+came old new from to count taken_now receipts takes = λ programs configs items run. taken run takes
 
 refused_stays : (old new : NetView) (from to : Name) (count : ℕ) (why : NetFault)
     → BytesTaken old from to count (Err why) new → is_refusal why ≡ true → GoesOn old new
 refused_stays old new from to count why (taking_refused stands is) refusal =
-    λ configs items run. run
+    λ programs configs items run. run
 refused_stays old new from to count why (taking_wants_memory stands none failed) refusal =
     absurd (cc refusal)
 refused_stays old new from to count why (taking_by_failed failed) refusal = absurd (cc refusal)
@@ -62,13 +64,13 @@ may_go old new from to count why (Err other) takes refusal = tt
 
 pub comes_to_rest : (old new : NetView) (counted : ℕ) (receipts : List Receipt)
     → IsSettled old (Ok (counted, receipts)) new → GoesOn old new
-comes_to_rest old new counted receipts settles = λ configs items run. settled run settles
+comes_to_rest old new counted receipts settles = λ programs configs items run. settled run settles
 
 -- ---- of what was given, by servers as they are set up
 
 module _ {X : Type 0} (made_of : List Setting → List Item → X) (net : NetView)
-    (configs : List Config) (items : List Item) where
-  same_of : (so : IsOneRoomOf configs items net) → made_of
+    (programs : Name → Programs) (configs : List Config) (items : List Item) where
+  same_of : (so : IsOneRoomOf programs configs items net) → made_of
       (settings_of net.network.network) net.network.network.items ≡ made_of so.settings items
   same_of so = ap (λ settings. made_of settings net.network.network.items) so.stay
       ∙ ap (made_of so.settings) so.given
@@ -85,33 +87,33 @@ owed_by client settings items = owed_by_network settings items client
 module _ (law : EveryNetworkIsOneRoom) where
   pub reads_owed : (net : NetView) (client : ℕ) (lines : List (List ℕ)) → IsOwed net client lines
       → ReadsOwed net client lines
-  reads_owed net client lines owed configs items run =
-      let so = law configs items net run in
+  reads_owed net client lines owed programs configs items run =
+      let so = law programs configs items net run in
       record {
         settings = so.settings;
         are_settings = so.are_settings;
-        front = subst (IsFront lines) (same_of (owed_by client) net configs items so)
+        front = subst (IsFront lines) (same_of (owed_by client) net programs configs items so)
             (owed.front so.stands);
-        all = λ rest. owed.all so.stands rest ∙ same_of (owed_by client) net configs items so;
+        all = λ rest. owed.all so.stands rest ∙ same_of (owed_by client) net programs configs items so;
       }
 
   pub took_few : (net : NetView) (count : ℕ) → TakesFew net count → TookFew net count
-  took_few net count few configs items run =
-      let so = law configs items net run in
+  took_few net count few programs configs items run =
+      let so = law programs configs items net run in
       record {
         settings = so.settings;
         are_settings = so.are_settings;
-        few = subst (λ n. count ≤ n) (same_of most_by net configs items so) (few so.stands);
+        few = subst (λ n. count ≤ n) (same_of most_by net programs configs items so) (few so.stands);
       }
 
   pub whole : (net : NetView) → IsOneRoomNet net → IsWhole net
-  whole net room configs items run =
-      let so = law configs items net run in
+  whole net room programs configs items run =
+      let so = law programs configs items net run in
       record {
         settings = so.settings;
         are_settings = so.are_settings;
         received = λ rest client. (room.at_rest so.stands rest).received client
-            ∙ same_of (owed_by client) net configs items so;
+            ∙ same_of (owed_by client) net programs configs items so;
         servers = room.at_rest so.stands;
         coming = room.coming so.stands;
         closes_none = room.closes_none so.stands;
@@ -148,21 +150,21 @@ module _ (law : EveryNetworkIsOneRoom) where
 
   pub answers_as_owed : (old new : NetView) (item : Item) (result : Result Answer NetFault)
       → IsGiven old item result new → RefusesAsTheWorld old item → AnswersAsOwed old item result
-  answers_as_owed old new item result gives refuses rest configs items run =
-      let so = law configs items old run in
+  answers_as_owed old new item result gives refuses rest programs configs items run =
+      let so = law programs configs items old run in
       record {
         settings = so.settings;
         are_settings = so.are_settings;
         answered = answered_by (refused_by item so.settings items) old new item result so.stands
             (at_rest_fault old item rest ∙ ap (option_map fault_by)
-            (refuses so.stands rest ∙ same_of (refused_by item) old configs items so)) gives;
+            (refuses so.stands rest ∙ same_of (refused_by item) old programs configs items so)) gives;
       }
 
   -- ---- by the law alone
 
   pub runs_are_owed : RunsAreOwed
-  runs_are_owed net configs items run =
-      let so = law configs items net run in
+  runs_are_owed net programs configs items run =
+      let so = law programs configs items net run in
       record {
         owed = λ client. record {
           settings = so.settings;
@@ -176,5 +178,5 @@ module _ (law : EveryNetworkIsOneRoom) where
           are_settings = so.are_settings;
           refused_so = so.refuses rest item;
         };
-        whole = whole net so.servers configs items run;
+        whole = whole net so.servers programs configs items run;
       }

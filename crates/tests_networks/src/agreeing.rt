@@ -7,6 +7,7 @@ use crate::{begun, give};
 use irc_line::{Framer, Line};
 use irc_names::{Host, ServerName};
 use irc_net::{ClientNumber, Item, Kept, Net};
+use irc_routes::Programs;
 use std::alloc::Global;
 
 /// What clients say, the first of a.net and the second of b.net; a server; and whether a.net and
@@ -107,7 +108,7 @@ fn row_holds(net: &mut Net<Kept>, row: &AgreementRow) -> bool {
 
 fn is_told(alloc: Global, row: &AgreementRow) -> bool {
     match two(alloc) {
-        Ok(configs) => match begun(alloc, configs) {
+        Ok(configs) => match begun(alloc, configs, Programs::Off) {
             Ok(mut net) => row_holds(&mut net, row),
             Err(_) => false,
         },

@@ -6,6 +6,7 @@ ghost use Rattle.std.specs.Prelude.{◌≡◌, true, map, OnOk};
 ghost use Rattle.irc_net.specs.ByteNetwork.{is_byte_rest};
 ghost use Rattle.irc_net.specs.Calls.{IsGivable};
 ghost use Rattle.irc_net.specs.Faults.{is_refusal};
+ghost use Rattle.irc_net.specs.Making.{everywhere};
 ghost use Rattle.irc_net.specs.NetworkViews.{item_of, line_bytes};
 ghost use Rattle.tests_networks.specs.Played.{AnswersAsOwed, Begins, GoesOn, IsWhole, PlaysOn};
 ghost use Rattle.tests_networks.specs.Played.{ReadsOwed, RunsAreOwed, TookFew};
@@ -22,16 +23,21 @@ mod tests;
 use irc_line::Text;
 use irc_names::ServerName;
 use irc_net::{Answer, ClientNumber, Config, Item, Kept, Net, NetConfigFault, NetFault};
+use irc_routes::Programs;
 use std::alloc::Global;
 
 /// A network of these configurations, to which nothing was given.
 ///
 /// # Errors
-/// As of [`Net::new`].
-pub fn begun(alloc: Global, configs: Vec<Config, Global>) -> Result<Net<Kept>, NetConfigFault>
-    ensures { Begins configs.items result }
+/// As of [`Net::serving`].
+pub fn begun(
+    alloc: Global,
+    configs: Vec<Config, Global>,
+    programs: Programs,
+) -> Result<Net<Kept>, NetConfigFault>
+    ensures { Begins (everywhere programs) configs.items result }
 {
-    Net::new(alloc, configs)
+    Net::serving(alloc, configs, programs)
 }
 
 /// Gives an item. At rest it is refused just where it has to be, and for that cause.

@@ -3,6 +3,7 @@ use crate::configs::two;
 use crate::{begun, give, let_come, lines, lines_taken, rooms, settle};
 use irc_names::{Host, ServerName};
 use irc_net::{ClientNumber, Item, Kept, Net, NetFault};
+use irc_routes::Programs;
 use std::alloc::Global;
 
 const ONE: &[u8] = b"a.net";
@@ -35,8 +36,8 @@ fn meet(
     )
 }
 
-fn two_meet(alloc: Global) -> Option<bool> {
-    let mut net = begun(alloc, two(alloc).ok()?).ok()?;
+fn two_meet(alloc: Global, programs: Programs) -> Option<bool> {
+    let mut net = begun(alloc, two(alloc).ok()?, programs).ok()?;
     meet(
         &mut net,
         &ServerName::read(ONE)?,
@@ -48,5 +49,6 @@ fn two_meet(alloc: Global) -> Option<bool> {
 
 #[test]
 fn two_servers_meet(rt: HostRuntime) {
-    assert!(rt; two_meet(rt.alloc()) == Some(true));
+    assert!(rt; two_meet(rt.alloc(), Programs::Off) == Some(true));
+    assert!(rt; two_meet(rt.alloc(), Programs::On) == Some(true));
 }

@@ -8,12 +8,12 @@ use Rattle.irc_net.specs.config.Config.{Config}
 use Rattle.irc_net.specs.peer.Peer.{Peer}
 use Rattle.irc_net.specs.View.{known_peer}
 use Rattle.irc_routes.specs.About.{about_of}
-use Rattle.irc_script.specs.Networks.{peer_of, peers_for, script_about}
+use Rattle.irc_script.specs.Networks.{peer_of, peers_for, script_texts}
 
 -- a configuration is that of one of these servers
 pub record IsConfigured (names : List Name) (server : Name) (config : Config) : Type 0 where
   pub name : config.own.name.items ≡ server
-  pub about : about_of config.own ≡ script_about
+  pub about : about_of config.own ≡ script_texts
   pub peers : map known_peer config.peers.items ≡ peers_for server names
 
 -- a server is among the peers of another one, behind those that were, if the two are not the same
