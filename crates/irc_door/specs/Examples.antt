@@ -6,7 +6,7 @@ use Rattle.irc_line.specs.Bytes.{crlf}
 use Rattle.irc_line.specs.Reading.{read_of}
 use Rattle.irc_numerics.specs.declared.replies.Reply.TheVariants.{MyInfo}
 use Rattle.irc_numerics.specs.Replies.{bare, table}
-use Rattle.irc_door.specs.declared.manner.Programs.TheVariants.{Off, Usual}
+use Rattle.irc_routes.specs.declared.programs.Programs.TheVariants.{Off, On}
 use Rattle.irc_door.specs.Letters.{whole_letters}
 use Rattle.irc_door.specs.Capabilities.{asked_read, Asked}
 use Rattle.irc_door.specs.Manners.{written_or_told, written_to}
@@ -21,7 +21,7 @@ pub record RowsAreTurned : Type 0 where
       ≡ (codes ":a.net 004 al a.net treeircd-1 i biklmnopstv" ++ crlf)
       ∷ (codes ":a.net 005 al CASEMAPPING=rfc1459 CHANTYPES=# PREFIX=(ov)@+"
       ++ codes " CHANMODES=b,k,l,imnpst MODES=3 NICKLEN=30 CHANNELLEN=50 TOPICLEN=160"
-      ++ codes " KICKLEN=160 MAXLIST=b:30 CHANLIMIT=#:10"
+      ++ codes " KICKLEN=160 AWAYLEN=160 MAXLIST=b:30 CHANLIMIT=#:10"
       ++ codes " TARGMAX=JOIN:,PART:,KICK:,LIST:,WHOIS:,PRIVMSG:4,NOTICE:4"
       ++ codes " :are supported by this server"
       ++ crlf) ∷ []
@@ -68,7 +68,7 @@ pub record MessagesAreTold : Type 0 where
       ∷ (codes ":a.net 376 al :End of MOTD command" ++ crlf) ∷ []
   pub in_a_text : told_with [] (codes ":al!u@h PRIVMSG bo ::a.net 422 al :MOTD File is missing")
       ≡ (codes ":al!u@h PRIVMSG bo ::a.net 422 al :MOTD File is missing" ++ crlf) ∷ []
-  pub turned_too : written_or_told Usual (codes ":a.net 341 al #c bo" ++ crlf) []
+  pub turned_too : written_or_told On (codes ":a.net 341 al #c bo" ++ crlf) []
       (missing_told (codes ":a.net 341 al #c bo" ++ crlf))
       ≡ (codes ":a.net 341 al bo #c" ++ crlf) ∷ []
 
@@ -86,7 +86,7 @@ pub record TextsAreMessages : Type 0 where
 -- client 1 of a door as programs expect it is answered
 abbrev pub answered_to : Option Asked → List ℕ → List (List ℕ)
 answered_to asked line =
-    written_to (record { programs = Usual; motd = None }) asked 1 (line ++ crlf)
+    written_to (record { programs = On; motd = None }) asked 1 (line ++ crlf)
 
 abbrev pub at_hand : (conn : ℕ) → List ℕ → Option Asked
 at_hand conn line = asked_read conn (read_of line)

@@ -10,7 +10,6 @@ ghost use Rattle.irc_door.specs.Doors.{to_client};
 ghost use Rattle.irc_door.specs.MessagesOfTheDay.{told_of};
 ghost use Rattle.irc_door.specs.Turning.{from};
 
-use crate::manner::Programs;
 use crate::telling::Hearer;
 use crate::turning::{body, reply, says, word_at};
 use irc_batch::Batch;
@@ -35,7 +34,7 @@ pub(crate) fn asked_of(programs: Programs, event: &Event) -> Option<CapLine<'_>>
 {
     match programs {
         Programs::Off => None,
-        Programs::Usual => asked_in(event),
+        Programs::On => asked_in(event),
     }
 }
 
