@@ -1,6 +1,7 @@
 -- Texts for clients, and what is written: the examples of `Turning.antt`, `Letters.antt`,
 -- `MessagesOfTheDay.antt` and `Capabilities.antt`.
 use Rattle.std.specs.Prelude.{◌≡◌, ℕ, true, false, Option, None, List, [], ◌∷◌, ◌++◌, codes}
+use Rattle.std.specs.Prelude.{length}
 use Rattle.std.specs.Str.Lines.{lines}
 use Rattle.irc_line.specs.Bytes.{crlf}
 use Rattle.irc_line.specs.Reading.{read_of}
@@ -11,6 +12,7 @@ use Rattle.irc_door.specs.Letters.{whole_letters}
 use Rattle.irc_door.specs.Capabilities.{asked_read, Asked}
 use Rattle.irc_door.specs.Manners.{written_or_told, written_to}
 use Rattle.irc_door.specs.MessagesOfTheDay.{has_room, is_message, missing_told}
+use Rattle.irc_door.specs.Supported.{supported_parts}
 use Rattle.irc_door.specs.Turning.{turned, written}
 
 abbrev pub said_of : List ℕ → List (List ℕ)
@@ -46,6 +48,11 @@ pub record LettersAreWhole : Type 0 where
   pub four : whole_letters (0x61 ∷ 0xF0 ∷ 0x9F ∷ 0x98 ∷ []) ≡ 0x61 ∷ []
   pub whole : whole_letters (0xD0 ∷ 0xBF ∷ []) ≡ 0xD0 ∷ 0xBF ∷ []
   pub other : whole_letters (0x61 ∷ 0xE9 ∷ 0x62 ∷ 0xD1 ∷ []) ≡ 0x61 ∷ 0xE9 ∷ 0x62 ∷ 0xD1 ∷ []
+
+-- 005 has a nickname, 13 words and the last parameter: 15, the most that a line may have (RFC 2812
+-- section 2.3.1)
+abbrev pub SupportedFits : Type 0
+SupportedFits = (server nick : List ℕ) → length (supported_parts server nick).middle ≡ 14
 
 -- 351 has the version that 004 has
 abbrev pub VersionIsOne : Type 0

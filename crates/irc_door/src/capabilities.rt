@@ -15,6 +15,7 @@ use crate::turning::{body, reply, says, word_at};
 use irc_batch::Batch;
 use irc_line::{Line, Message, Text, parse};
 use irc_link_words::is_command;
+use irc_routes::Programs;
 use irc_server::Event;
 use std::alloc::AllocError;
 

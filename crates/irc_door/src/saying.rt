@@ -14,6 +14,7 @@ use crate::motd::Motd;
 use crate::telling::{missing_told, tell};
 use crate::turning::{Turned, turn};
 use irc_batch::{Batch, Out};
+use irc_routes::Programs;
 use std::alloc::AllocError;
 
 /// What was put out goes on, in that manner; by a line CAP of a client, or by another event.
