@@ -36,13 +36,17 @@ TAKEN = ((2048, b""), (2048 + 105 + 5, b"Hello"), (65536, 100 * b"\n"), (65536, 
 REFUSED = ((2047, b""), (2048 + 105 + 4, b"Hello"), (65536, 101 * b"\n"), (65536, 8193 * b"x"), (65536, b"a\0"), (65536, b"a\rb\n"), (65536, b"a\r"),
            (65536, b"\xff"))
 CHECKER = pathlib.Path(__file__).resolve().parent.parent / "ircd-check"
-SUPPORTED = ("CASEMAPPING=rfc1459 CHANTYPES=# PREFIX=(ov)@+ CHANMODES=b,k,l,imnpst MODES=3 NICKLEN=30 CHANNELLEN=50 TOPICLEN=160 KICKLEN=160 MAXLIST=b:30 "
-             "CHANLIMIT=#:10 TARGMAX=JOIN:,PART:,KICK:,LIST:,WHOIS:,PRIVMSG:4,NOTICE:4 :are supported by this server")
+SUPPORTED = ("CASEMAPPING=rfc1459 CHANTYPES=# PREFIX=(ov)@+ CHANMODES=b,k,l,imnpst MODES=3 NICKLEN=30 CHANNELLEN=50 TOPICLEN=160 KICKLEN=160 "
+             "AWAYLEN=160 MAXLIST=b:30 CHANLIMIT=#:10 TARGMAX=JOIN:,PART:,KICK:,LIST:,WHOIS:,PRIVMSG:4,NOTICE:4 :are supported by this server")
 # what is said, and what of the answer has to be there: without the key, and with it
 ROWS = (
     ("VERSION", ":a.net 421 al VERSION :Unknown command", ":a.net 351 al treeircd-1 a.net :RFC 2811, 2812 and 2813 in a profile"),
     ("INVITE zed #c", ":a.net 341 al #c zed", ":a.net 341 al zed #c"),
-    ("AWAY :x", ":a.net 421 al AWAY :Unknown command", ":a.net 421 al AWAY :Unknown command"),
+    ("FOO", ":a.net 421 al FOO :Unknown command", ":a.net 421 al FOO :Unknown command"),
+    ("AWAY :x", ":a.net 421 al AWAY :Unknown command", ":a.net 306 al :You have been marked as being away"),
+    ("AWAY", ":a.net 421 al AWAY :Unknown command", ":a.net 305 al :You are no longer marked as being away"),
+    ("USERHOST zed", ":a.net 421 al USERHOST :Unknown command", ":a.net 302 al :zed=+u@127.0.0.1"),
+    ("WHOWAS gone", ":a.net 421 al WHOWAS :Unknown command", ":a.net 369 al gone :End of WHOWAS"),
     ("NICK ally", ":al!u@127.0.0.1 NICK ally", ":al!u@127.0.0.1 NICK :ally"),
 )
 # a topic and a text of letters of two bytes, behind one of one byte: as they come to another client

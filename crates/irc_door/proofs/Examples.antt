@@ -10,7 +10,7 @@ use Rattle.irc_numerics.specs.Replies.{table}
 use Rattle.irc_door.specs.Letters.{whole_letters}
 use Rattle.irc_door.specs.Examples.{CapabilitiesAreNone}
 use Rattle.irc_door.specs.Examples.{LettersAreWhole, MessagesAreTold, OthersGo, RowsAreTurned}
-use Rattle.irc_door.specs.Examples.{TextsAreMessages, VersionIsOne}
+use Rattle.irc_door.specs.Examples.{SupportedFits, TextsAreMessages, VersionIsOne}
 
 pub rows_are_turned : RowsAreTurned
 unfolding read_of line_text cut digits
@@ -23,6 +23,9 @@ others_go = record { command = refl; text = refl; ending = refl }
 pub letters_are_whole : LettersAreWhole
 unfolding whole_letters utf8_error_len utf8_valid_len is_utf8 chars lib.Utf8.encode
 letters_are_whole = record { two = refl; three = refl; four = refl; whole = refl; other = refl }
+
+pub supported_fits : SupportedFits
+supported_fits server nick = refl
 
 pub version_is_one : VersionIsOne
 unfolding table

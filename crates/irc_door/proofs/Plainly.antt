@@ -4,8 +4,8 @@ use Rattle.std.proofs.Common.{Err, OnOk}
 use Rattle.std.proofs.Common.{List, [], ◌∷◌, ◌++◌, is_none, option_map, refl, sym, ◌∙◌, ap}
 use Rattle.irc_batch.specs.Batches.{Sent, end_of, end_of_link, line_on, line_to}
 use Rattle.irc_door.specs.declared.manner.Manner.{Manner}
-use Rattle.irc_door.specs.declared.manner.Programs.{Programs}
-use Rattle.irc_door.specs.declared.manner.Programs.TheVariants.{Off, Usual}
+use Rattle.irc_routes.specs.declared.programs.Programs.{Programs}
+use Rattle.irc_routes.specs.declared.programs.Programs.TheVariants.{Off, On}
 use Rattle.irc_door.specs.declared.motd.Motd.{Motd}
 use Rattle.irc_server.specs.declared.event.Event.{Event}
 use Rattle.irc_door.specs.Capabilities.{asked_of, Asked}
@@ -17,7 +17,7 @@ written_plainly : (programs : Programs) (motd : Option Motd)
     → written_with programs motd line ≡ line ∷ []
 written_plainly Off None plain line = refl
 written_plainly Off (Some motd) plain line = cc plain
-written_plainly Usual motd plain line = cc plain
+written_plainly On motd plain line = cc plain
 
 one_plainly : (manner : Manner) → is_plain manner ≡ true → (sent : Sent)
     → said manner None sent ≡ sent ∷ []
@@ -37,7 +37,7 @@ all_plainly manner plain (sent ∷ outs) =
 none_asked : (programs : Programs) (motd : Option Motd)
     → (is_off programs && is_none motd) ≡ true → (event : Event) → asked_of programs event ≡ None
 none_asked Off motd plain event = refl
-none_asked Usual motd plain event = cc plain
+none_asked On motd plain event = cc plain
 
 pub is_plainly : IsPlainly
 is_plainly manner plain event outs =

@@ -17,8 +17,8 @@ use Rattle.irc_server.specs.declared.event.Event.{Event}
 use Rattle.irc_server.specs.declared.event.Event.TheVariants.{Connect, Line, Gone, LinkUp, LinkLine}
 use Rattle.irc_server.specs.declared.event.Event.TheVariants.{LinkDown}
 use Rattle.irc_door.specs.declared.capabilities.CapLine.{CapLine}
-use Rattle.irc_door.specs.declared.manner.Programs.{Programs}
-use Rattle.irc_door.specs.declared.manner.Programs.TheVariants.{Off, Usual}
+use Rattle.irc_routes.specs.declared.programs.Programs.{Programs}
+use Rattle.irc_routes.specs.declared.programs.Programs.TheVariants.{Off, On}
 use Rattle.irc_door.specs.MessagesOfTheDay.{Told}
 use Rattle.irc_door.specs.Turning.{body, from, says, word_at}
 
@@ -55,7 +55,7 @@ asked_in (LinkDown link) = None
 -- only where programs are told what they expect
 abbrev pub asked_of : Programs → Event → Option Asked
 asked_of Off event = None
-asked_of Usual event = asked_in event
+asked_of On event = asked_in event
 
 -- ---- in place of which text
 

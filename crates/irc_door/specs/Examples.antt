@@ -1,16 +1,18 @@
 -- Texts for clients, and what is written: the examples of `Turning.antt`, `Letters.antt`,
 -- `MessagesOfTheDay.antt` and `Capabilities.antt`.
 use Rattle.std.specs.Prelude.{◌≡◌, ℕ, true, false, Option, None, List, [], ◌∷◌, ◌++◌, codes}
+use Rattle.std.specs.Prelude.{length}
 use Rattle.std.specs.Str.Lines.{lines}
 use Rattle.irc_line.specs.Bytes.{crlf}
 use Rattle.irc_line.specs.Reading.{read_of}
 use Rattle.irc_numerics.specs.declared.replies.Reply.TheVariants.{MyInfo}
 use Rattle.irc_numerics.specs.Replies.{bare, table}
-use Rattle.irc_door.specs.declared.manner.Programs.TheVariants.{Off, Usual}
+use Rattle.irc_routes.specs.declared.programs.Programs.TheVariants.{Off, On}
 use Rattle.irc_door.specs.Letters.{whole_letters}
 use Rattle.irc_door.specs.Capabilities.{asked_read, Asked}
 use Rattle.irc_door.specs.Manners.{written_or_told, written_to}
 use Rattle.irc_door.specs.MessagesOfTheDay.{has_room, is_message, missing_told}
+use Rattle.irc_door.specs.Supported.{supported_parts}
 use Rattle.irc_door.specs.Turning.{turned, written}
 
 abbrev pub said_of : List ℕ → List (List ℕ)
@@ -21,7 +23,7 @@ pub record RowsAreTurned : Type 0 where
       ≡ (codes ":a.net 004 al a.net treeircd-1 i biklmnopstv" ++ crlf)
       ∷ (codes ":a.net 005 al CASEMAPPING=rfc1459 CHANTYPES=# PREFIX=(ov)@+"
       ++ codes " CHANMODES=b,k,l,imnpst MODES=3 NICKLEN=30 CHANNELLEN=50 TOPICLEN=160"
-      ++ codes " KICKLEN=160 MAXLIST=b:30 CHANLIMIT=#:10"
+      ++ codes " KICKLEN=160 AWAYLEN=160 MAXLIST=b:30 CHANLIMIT=#:10"
       ++ codes " TARGMAX=JOIN:,PART:,KICK:,LIST:,WHOIS:,PRIVMSG:4,NOTICE:4"
       ++ codes " :are supported by this server"
       ++ crlf) ∷ []
@@ -47,6 +49,11 @@ pub record LettersAreWhole : Type 0 where
   pub whole : whole_letters (0xD0 ∷ 0xBF ∷ []) ≡ 0xD0 ∷ 0xBF ∷ []
   pub other : whole_letters (0x61 ∷ 0xE9 ∷ 0x62 ∷ 0xD1 ∷ []) ≡ 0x61 ∷ 0xE9 ∷ 0x62 ∷ 0xD1 ∷ []
 
+-- 005 has a nickname, 13 words and the last parameter: 15, the most that a line may have (RFC 2812
+-- section 2.3.1)
+abbrev pub SupportedFits : Type 0
+SupportedFits = (server nick : List ℕ) → length (supported_parts server nick).middle ≡ 14
+
 -- 351 has the version that 004 has
 abbrev pub VersionIsOne : Type 0
 VersionIsOne = (server : List ℕ) → table (MyInfo server)
@@ -68,7 +75,7 @@ pub record MessagesAreTold : Type 0 where
       ∷ (codes ":a.net 376 al :End of MOTD command" ++ crlf) ∷ []
   pub in_a_text : told_with [] (codes ":al!u@h PRIVMSG bo ::a.net 422 al :MOTD File is missing")
       ≡ (codes ":al!u@h PRIVMSG bo ::a.net 422 al :MOTD File is missing" ++ crlf) ∷ []
-  pub turned_too : written_or_told Usual (codes ":a.net 341 al #c bo" ++ crlf) []
+  pub turned_too : written_or_told On (codes ":a.net 341 al #c bo" ++ crlf) []
       (missing_told (codes ":a.net 341 al #c bo" ++ crlf))
       ≡ (codes ":a.net 341 al bo #c" ++ crlf) ∷ []
 
@@ -86,7 +93,7 @@ pub record TextsAreMessages : Type 0 where
 -- client 1 of a door as programs expect it is answered
 abbrev pub answered_to : Option Asked → List ℕ → List (List ℕ)
 answered_to asked line =
-    written_to (record { programs = Usual; motd = None }) asked 1 (line ++ crlf)
+    written_to (record { programs = On; motd = None }) asked 1 (line ++ crlf)
 
 abbrev pub at_hand : (conn : ℕ) → List ℕ → Option Asked
 at_hand conn line = asked_read conn (read_of line)

@@ -6,15 +6,15 @@ use Rattle.std.specs.Prelude.{ℕ, Bool, true, false, ◌&&◌, Option, Some, No
 use Rattle.std.specs.Prelude.{is_none, nat_eq, if◌then◌else◌}
 use Rattle.irc_door.specs.Capabilities.{cap_answers, refused_told, Asked}
 use Rattle.irc_door.specs.declared.manner.Manner.{Manner}
-use Rattle.irc_door.specs.declared.manner.Programs.{Programs}
-use Rattle.irc_door.specs.declared.manner.Programs.TheVariants.{Off, Usual}
+use Rattle.irc_routes.specs.declared.programs.Programs.{Programs}
+use Rattle.irc_routes.specs.declared.programs.Programs.TheVariants.{Off, On}
 use Rattle.irc_door.specs.declared.motd.Motd.{Motd}
 use Rattle.irc_door.specs.MessagesOfTheDay.{lines_of, message_told, missing_told, Told}
 use Rattle.irc_door.specs.Turning.{turned, written}
 
 abbrev pub written_usually : Programs → List ℕ → List (List ℕ)
 written_usually Off line = line ∷ []
-written_usually Usual line = written line (turned line)
+written_usually On line = written line (turned line)
 
 abbrev pub written_or_told : Programs → List ℕ → (message : List (List ℕ)) → Option Told
     → List (List ℕ)
@@ -43,7 +43,7 @@ written_to manner (Some asked) conn line =
 -- nothing is asked for
 abbrev pub is_off : Programs → Bool
 is_off Off = true
-is_off Usual = false
+is_off On = false
 
 abbrev pub is_plain : Manner → Bool
 is_plain manner = is_off manner.programs && is_none manner.motd

@@ -9,8 +9,8 @@ abbrev pub supported : List (List ℕ)
 supported =
     codes "CASEMAPPING=rfc1459" ∷ codes "CHANTYPES=#" ∷ codes "PREFIX=(ov)@+"
     ∷ codes "CHANMODES=b,k,l,imnpst" ∷ codes "MODES=3" ∷ codes "NICKLEN=30"
-    ∷ codes "CHANNELLEN=50" ∷ codes "TOPICLEN=160" ∷ codes "KICKLEN=160" ∷ codes "MAXLIST=b:30"
-    ∷ codes "CHANLIMIT=#:10"
+    ∷ codes "CHANNELLEN=50" ∷ codes "TOPICLEN=160" ∷ codes "KICKLEN=160" ∷ codes "AWAYLEN=160"
+    ∷ codes "MAXLIST=b:30" ∷ codes "CHANLIMIT=#:10"
     ∷ codes "TARGMAX=JOIN:,PART:,KICK:,LIST:,WHOIS:,PRIVMSG:4,NOTICE:4" ∷ []
 
 abbrev pub supported_parts : (server nick : List ℕ) → Written

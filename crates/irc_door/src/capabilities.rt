@@ -10,12 +10,12 @@ ghost use Rattle.irc_door.specs.Doors.{to_client};
 ghost use Rattle.irc_door.specs.MessagesOfTheDay.{told_of};
 ghost use Rattle.irc_door.specs.Turning.{from};
 
-use crate::manner::Programs;
 use crate::telling::Hearer;
 use crate::turning::{body, reply, says, word_at};
 use irc_batch::Batch;
 use irc_line::{Line, Message, Text, parse};
 use irc_link_words::is_command;
+use irc_routes::Programs;
 use irc_server::Event;
 use std::alloc::AllocError;
 
@@ -35,7 +35,7 @@ pub(crate) fn asked_of(programs: Programs, event: &Event) -> Option<CapLine<'_>>
 {
     match programs {
         Programs::Off => None,
-        Programs::Usual => asked_in(event),
+        Programs::On => asked_in(event),
     }
 }
 

@@ -15,5 +15,5 @@ mod telling;
 mod turning;
 
 pub use door::Door;
-pub use manner::{Manner, Programs};
+pub use manner::Manner;
 pub use motd::{MOST_BYTES, MOST_LINES, Motd, MotdFault};

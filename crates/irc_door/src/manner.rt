@@ -3,20 +3,12 @@ ghost use Rattle.std.specs.Prelude.{◌≡◌};
 ghost use Rattle.irc_door.specs.Manners.{is_off, is_plain};
 
 use crate::motd::Motd;
-
-/// Whether a door says what programs expect.
-#[derive(Clone, Copy, Drop)]
-pub enum Programs {
-    /// What the machine says goes as it is.
-    Off,
-    /// It is turned as programs expect it.
-    Usual,
-}
+use irc_routes::Programs;
 
 /// How a door speaks to clients.
 #[derive(Drop)]
 pub struct Manner {
-    /// Whether it says what programs expect.
+    /// Whether what the machine says is turned as programs expect it.
     pub programs: Programs,
     /// What it says in place of 422, if there is a message of the day.
     pub motd: Option<Motd>,
@@ -36,6 +28,6 @@ fn is_off(programs: Programs) -> bool
 {
     match programs {
         Programs::Off => true,
-        Programs::Usual => false,
+        Programs::On => false,
     }
 }

@@ -9,11 +9,12 @@ ghost use Rattle.irc_door.specs.Manners.{written_usually, written_with};
 ghost use Rattle.irc_door.specs.Turning.{turned, written};
 
 use crate::capabilities::{CapLine, answer, refused_told};
-use crate::manner::{Manner, Programs};
+use crate::manner::Manner;
 use crate::motd::Motd;
 use crate::telling::{missing_told, tell};
 use crate::turning::{Turned, turn};
 use irc_batch::{Batch, Out};
+use irc_routes::Programs;
 use std::alloc::AllocError;
 
 /// What was put out goes on, in that manner; by a line CAP of a client, or by another event.
@@ -166,7 +167,7 @@ fn say_usually(
 {
     match programs {
         Programs::Off => out.put(conn, line),
-        Programs::Usual => say_turned(conn, line, out),
+        Programs::On => say_turned(conn, line, out),
     }
 }
 

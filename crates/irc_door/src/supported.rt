@@ -29,6 +29,7 @@ struct LimitWords {
     channel: Text,
     topic: Text,
     kick: Text,
+    away: Text,
     bans: Text,
     joined: Text,
     targets: Text,
@@ -41,6 +42,7 @@ fn limits() -> LimitWords
     ensures channel { result.channel.items ≡ codes "CHANNELLEN=50" }
     ensures topic { result.topic.items ≡ codes "TOPICLEN=160" }
     ensures kick { result.kick.items ≡ codes "KICKLEN=160" }
+    ensures away { result.away.items ≡ codes "AWAYLEN=160" }
     ensures bans { result.bans.items ≡ codes "MAXLIST=b:30" }
     ensures joined { result.joined.items ≡ codes "CHANLIMIT=#:10" }
     ensures targets { result.targets.items
@@ -52,6 +54,7 @@ fn limits() -> LimitWords
         channel: limit(b"CHANNELLEN=", MAX_CHANNEL),
         topic: limit(b"TOPICLEN=", MAX_WORDS),
         kick: limit(b"KICKLEN=", MAX_WORDS),
+        away: limit(b"AWAYLEN=", MAX_WORDS),
         bans: limit(b"MAXLIST=b:", MAX_BANS),
         joined: limit(b"CHANLIMIT=#:", MAX_JOINED),
         targets: targets(MAX_TARGETS),
@@ -88,6 +91,7 @@ fn supported_by<'x>(server: &'x [u8], nick: &'x [u8], limits: &'x LimitWords) ->
     requires channel { limits.now.channel.items ≡ codes "CHANNELLEN=50" }
     requires topic { limits.now.topic.items ≡ codes "TOPICLEN=160" }
     requires kick { limits.now.kick.items ≡ codes "KICKLEN=160" }
+    requires away { limits.now.away.items ≡ codes "AWAYLEN=160" }
     requires bans { limits.now.bans.items ≡ codes "MAXLIST=b:30" }
     requires joined { limits.now.joined.items ≡ codes "CHANLIMIT=#:10" }
     requires targets { limits.now.targets.items
@@ -108,6 +112,7 @@ fn supported_by<'x>(server: &'x [u8], nick: &'x [u8], limits: &'x LimitWords) ->
             limits.channel.as_slice(),
             limits.topic.as_slice(),
             limits.kick.as_slice(),
+            limits.away.as_slice(),
             limits.bans.as_slice(),
             limits.joined.as_slice(),
             limits.targets.as_slice(),

@@ -5,7 +5,7 @@ ghost use Rattle.irc_line.specs.MessageViews.{optional_now, parsed};
 ghost use Rattle.irc_line.specs.Messages.{text};
 ghost use Rattle.irc_line.specs.PartViews.{words_now};
 ghost use Rattle.irc_door.specs.Turning.{body, cut_at_letter, from, invited_by, invited_parts};
-ghost use Rattle.irc_door.specs.Turning.{is_full, last_word};
+ghost use Rattle.irc_door.specs.Turning.{has_name_last, is_full, last_word};
 ghost use Rattle.irc_door.specs.Turning.{nick_parts, refused, turned, turned_by, turned_message};
 ghost use Rattle.irc_door.specs.Turning.{says, version_parts, word_at};
 
@@ -141,8 +141,15 @@ fn is_full(line: &[u8], message: &Message<'_>) -> bool
     let last = last_word(message).len();
     line.len() == MAX_LINE
         || last == MAX_WORDS
-        || (says(b"311", message) && last == MAX_REAL_NAME)
+        || (has_name_last(message) && last == MAX_REAL_NAME)
         || (says(b"352", message) && last >= LEAST_WITH_NAME)
+}
+
+/// Whether a line ends in a real name: of somebody who is here, or was.
+fn has_name_last(message: &Message<'_>) -> bool
+    ensures { result ≡ has_name_last (parsed message.now) }
+{
+    says(b"311", message) || says(b"314", message)
 }
 
 /// A line up to the letter within which it ends, if it ends within one.

@@ -6,10 +6,14 @@ use Rattle.std.specs.declared.alloc.Global.{Global}
 use Rattle.std.specs.Option.{option_copied}
 use Rattle.std.specs.declared.net.socket_addr.SocketAddr.{SocketAddr}
 use Rattle.std.proofs.lemmas.List.{nil_from_length}
+use Rattle.irc_routes.specs.declared.programs.Programs.{Programs}
 use Rattle.irc_server.specs.declared.config.Config.{Config}
 use Rattle.irc_server.specs.declared.config.ConfigFault.{ConfigFault}
 use Rattle.irc_server.specs.declared.config.ConfigFault.TheVariants.{BadName, DoubleName, Memory}
-use Rattle.irc_server.specs.Configuring.{IsMade}
+use Rattle.irc_server.specs.Configuring.{config_fault, made_view, served_view, IsMadeServing}
+use Rattle.irc_stage.specs.View.{View}
+use Rattle.irc_engine.specs.Knowing.{HasAs, HasNobody}
+use Rattle.irc_engine.specs.Lemmas.NewServers.{made_has_nobody}
 use Rattle.irc_settings.specs.declared.settings.Settings.{Settings}
 use Rattle.irc_settings.specs.declared.settings.PeerSettings.{PeerSettings}
 use Rattle.irc_entrance.specs.Ranges.{IsSomeNoRange}
@@ -192,13 +196,24 @@ proxies_refused settings stop found =
     (λ some. proxies some) found
 
 pub server_refused : (settings : Settings) (config : Config) (fault : ConfigFault)
-    → Configures settings config → IsMade config (Err fault)
+    → Configures settings config → config_fault config ≡ Some fault
     → IsUnset settings (stop_of_config fault)
 server_refused settings config BadName configures made =
     server config configures (ap is_some made)
 server_refused settings config DoubleName configures made =
     server config configures (ap is_some made)
 server_refused settings config Memory configures made = tt
+
+-- what its clients have makes no difference to who is connected to a server that has been made
+pub served_has_nobody : (programs : Programs) (config : Config) (server : Option View)
+    → IsMadeServing programs config (Ok server) → HasNobody server
+served_has_nobody programs config server made conn view is =
+    subst (λ (v : View). HasAs v conn None)
+    (one_view (served_view programs config) view (sym made.1 ∙ is))
+    (made_has_nobody config (Some (made_view config)) (made.0, refl) conn (made_view config) refl)
+  where
+    one_view : (a b : View) → Some a ≡ Some b → a ≡ b
+    one_view a b same = cc same
 
 -- ---- what clients are asked
 

@@ -14,8 +14,10 @@ use Rattle.irc_settings.specs.declared.settings.PeerSettings.{PeerSettings}
 use Rattle.irc_settings.specs.Configuration.{AreSettingsOf, is_configuration}
 use Rattle.irc_settings.specs.declared.fixed.FixedKey.{FixedKey}
 use Rattle.irc_settings.specs.Fixed.{differs_at, fixed_keys, key_name}
+use Rattle.irc_routes.specs.declared.programs.Programs.{Programs}
+use Rattle.irc_routes.specs.declared.programs.Programs.TheVariants.{Off, On}
 use Rattle.irc_server.specs.declared.config.Config.{Config}
-use Rattle.irc_server.specs.Configuring.{config_fault, made_view}
+use Rattle.irc_server.specs.Configuring.{config_fault, served_view}
 use Rattle.irc_stage.specs.View.{KnownPeer, View, known_peer}
 use Rattle.irc_engine.specs.Machines.{never_due, Dues, Handles}
 use Rattle.irc_engine.specs.Turning.{IsNew}
@@ -29,8 +31,6 @@ use Rattle.irc_journal.specs.Rereadings.{rereading_line, restart_line}
 use Rattle.irc_journal.specs.Saying.{AreSomeSaid, IsFrontSaid}
 use Rattle.irc_door.specs.declared.door.Door.{Door}
 use Rattle.irc_door.specs.declared.manner.Manner.{Manner}
-use Rattle.irc_door.specs.declared.manner.Programs.{Programs}
-use Rattle.irc_door.specs.declared.manner.Programs.TheVariants.{Off, Usual}
 use Rattle.irc_door.specs.declared.motd.Motd.{Motd}
 use Rattle.irc_door.specs.Doors.{announcing, dues_by, server_behind, IsTurned}
 use Rattle.irc_door.specs.MessagesOfTheDay.{has_room, is_message, lines_of}
@@ -131,9 +131,9 @@ abbrev pub pace_set : Option SettingsPace → Option LinesPace
 pace_set None = None
 pace_set (Some pace) = Some (record { per_second = pace.per_second; burst = pace.burst })
 
--- clients are told what their programs expect, if the settings ask for it
+-- clients have what their programs expect, if the settings ask for it
 abbrev pub programs_set : Bool → Programs
-programs_set true = Usual
+programs_set true = On
 programs_set false = Off
 
 -- clients are asked for the password of the settings, if there is one, and after so many seconds
@@ -149,12 +149,13 @@ pub data CannotBeAsked (settings : Settings) : Type 0 where
   no_password : {text : List ℕ} → option_map string_bytes settings.password ≡ Some text
       → ¬ (IsClientPassword text) → CannotBeAsked settings
 
--- the server is made of the settings, without clients
+-- the server is made of the settings, without clients; these have the commands that programs expect
+-- where the door says what programs expect, and else are shown nothing of who is away
 pub record IsServerOf (settings : Settings) (server : Option View) : Type 0 where
   pub config : Config
   pub configures : Configures settings config
   pub no_fault : config_fault config ≡ None
-  pub server_is : server ≡ Some (made_view config)
+  pub server_is : server ≡ Some (served_view (programs_set settings.programs) config)
 
 -- how many connections an address may have, how many of these for links without a name, to which
 -- pace of lines clients keep, from where no client comes in, and from where proxies come
@@ -301,7 +302,7 @@ front_dues = dues_by (watched_by inner_server IsInner (dues_held never_due))
 -- USER waits for the end of a negotiation where programs are told what they expect
 abbrev pub negotiations_of : Programs → Negotiations
 negotiations_of Off = NothingWaits
-negotiations_of Usual = Awaited
+negotiations_of On = Awaited
 
 -- what stands in front of a layer
 pub record IsFrontOf (layer : Layer) (programs : Programs) (asks : Asks) (manner : Manner)

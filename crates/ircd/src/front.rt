@@ -5,11 +5,12 @@ ghost use Rattle.irc_layer.specs.Layers.{server_of};
 ghost use Rattle.ircd.specs.Serving.{front_server, negotiations_of, IsFrontOf};
 
 use crate::setup::Speech;
-use irc_door::{Door, Manner, Programs};
+use irc_door::{Door, Manner};
 use irc_doorman::Doorman;
 use irc_engine::Engine;
 use irc_hold::{Hold, Negotiations};
 use irc_layer::Layer;
+use irc_routes::Programs;
 use irc_sockets::MioWire;
 use std::alloc::Global;
 
@@ -36,6 +37,6 @@ fn negotiations(programs: Programs) -> Negotiations
 {
     match programs {
         Programs::Off => Negotiations::Off,
-        Programs::Usual => Negotiations::Awaited,
+        Programs::On => Negotiations::Awaited,
     }
 }

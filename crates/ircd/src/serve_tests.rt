@@ -40,7 +40,7 @@ const READY: &[u8] = b"ready\n";
 /// The file that each configuration is written to.
 const FILE: &str = "serve_tests.toml";
 
-static ROWS: [ServeRow; 48] = [
+static ROWS: [ServeRow; 49] = [
     ServeRow {
         room: ROOM,
         more: "",
@@ -313,10 +313,18 @@ static ROWS: [ServeRow; 48] = [
         output: b"",
         errors: BAD,
     },
-    // clients are told what their programs expect, and that by a word
+    // clients have what their programs expect, or not; no other word is one
     ServeRow {
         room: ROOM,
         more: "programs = true\n",
+        words: &["serve", FILE, "0"],
+        status: 0,
+        output: READY,
+        errors: b"",
+    },
+    ServeRow {
+        room: ROOM,
+        more: "programs = false\n",
         words: &["serve", FILE, "0"],
         status: 0,
         output: READY,

@@ -11,12 +11,11 @@ ghost use Rattle.ircd.specs.Loops.SettingUp.{FindsAddress, FindsAsks, FindsCalle
 ghost use Rattle.ircd.specs.Loops.SettingUp.{FindsName, FindsOptional, FindsPassword};
 ghost use Rattle.ircd.specs.Loops.SettingUp.{FindsRanges};
 
-use irc_door::Programs;
 use irc_doorman::{Asks, ClientPassword};
 use irc_endings::Stop;
 use irc_entrance::{AddressRange, read_ranges};
 use irc_names::ServerName;
-use irc_routes::Own;
+use irc_routes::{Own, Programs};
 use irc_server::{Config, Peer, Server};
 use irc_settings::{PeerSettings, Settings, read_settings};
 use irc_sockets::{Callee, Limits, Listening};
@@ -52,7 +51,7 @@ pub struct Calls {
 /// How clients are spoken to.
 #[derive(Drop)]
 pub struct Speech {
-    /// What they are told beside the profile.
+    /// Whether they have what programs expect, as the server says it too.
     pub programs: Programs,
     /// The file whose text they are told as the message of the day, if there is one.
     pub motd: Option<String>,
@@ -88,11 +87,12 @@ pub fn set_up(alloc: Global, settings: &Settings) -> Result<Setup, Stop>
     })
 }
 
-/// The server, which nobody is connected to.
+/// The server, which nobody is connected to; its clients have what programs expect, or not.
 fn server_of(alloc: Global, settings: &Settings) -> Result<Server, Stop>
     ensures { SetsUpPart (IsServerOf settings.now) settings.now result }
 {
-    let server = Server::new(alloc, config(alloc, settings)?)?;
+    let programs = programs(settings.programs);
+    let server = Server::serving(alloc, config(alloc, settings)?, programs)?;
     Ok(server)
 }
 
@@ -157,12 +157,12 @@ fn optional_text(alloc: Global, text: Option<&String>) -> Result<Option<String>,
     }
 }
 
-/// What clients are told beside the profile.
+/// Whether clients have what programs expect beside the profile.
 fn programs(are_asked_for: bool) -> Programs
     ensures { result ≡ programs_set are_asked_for }
 {
     if are_asked_for {
-        Programs::Usual
+        Programs::On
     } else {
         Programs::Off
     }

@@ -22,13 +22,17 @@ pub returns-clause-kick : goal.returns-clause-kick
 unfolding cut digits
 returns-clause-kick c = c.limit-5.ensures.word
 
+pub returns-clause-away : goal.returns-clause-away
+unfolding cut digits
+returns-clause-away c = c.limit-6.ensures.word
+
 pub returns-clause-bans : goal.returns-clause-bans
 unfolding cut digits
-returns-clause-bans c = c.limit-6.ensures.word
+returns-clause-bans c = c.limit-7.ensures.word
 
 pub returns-clause-joined : goal.returns-clause-joined
 unfolding cut digits
-returns-clause-joined c = c.limit-7.ensures.word
+returns-clause-joined c = c.limit-8.ensures.word
 
 pub returns-clause-targets : goal.returns-clause-targets
 unfolding cut digits

@@ -11,7 +11,8 @@ returns c = c.reply.ensures ∙ (λ i. text (from c.args.server.now (codes "005"
     ∷ (c.as_slice-3.ensures.value ∙ c.requires.channel) i
     ∷ (c.as_slice-4.ensures.value ∙ c.requires.topic) i
     ∷ (c.as_slice-5.ensures.value ∙ c.requires.kick) i
-    ∷ (c.as_slice-6.ensures.value ∙ c.requires.bans) i
-    ∷ (c.as_slice-7.ensures.value ∙ c.requires.joined) i
-    ∷ (c.as_slice-8.ensures.value ∙ c.requires.targets) i ∷ [])
+    ∷ (c.as_slice-6.ensures.value ∙ c.requires.away) i
+    ∷ (c.as_slice-7.ensures.value ∙ c.requires.bans) i
+    ∷ (c.as_slice-8.ensures.value ∙ c.requires.joined) i
+    ∷ (c.as_slice-9.ensures.value ∙ c.requires.targets) i ∷ [])
     (Some (codes "are supported by this server"))))

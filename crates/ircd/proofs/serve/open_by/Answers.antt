@@ -1,11 +1,11 @@
-use Rattle.irc_engine.specs.Lemmas.NewServers.{made_has_nobody}
 use Rattle.ircd.proofs.Ready.{manner_unread, opened_by, settings_refused, unopened_for}
+use Rattle.ircd.proofs.SettingUp.{served_has_nobody}
 use Rattle.ircd.proofs.serve.open_by.Goals as goal
 
 pub open-requires-clause-nobody : goal.open-requires-clause-nobody
 open-requires-clause-nobody g c =
     let made = c.in_ok-setup.ensures.server in
-    made_has_nobody made.config _ (made.no_fault, made.server_is)
+    served_has_nobody _ made.config _ (made.no_fault, made.server_is)
 
 pub returns-in_err-setup : goal.returns-in_err-setup
 returns-in_err-setup g c = unopened_for c.args.settings.now c.from_residual.result

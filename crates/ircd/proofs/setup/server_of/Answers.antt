@@ -1,3 +1,5 @@
+use Rattle.std.proofs.Common.{Some, ap, ◌∙◌}
+use Rattle.irc_server.specs.Configuring.{served_view}
 use Rattle.irc_endings.specs.Statuses.{stop_of_config}
 use Rattle.irc_endings.specs.declared.fault.Stop.TheVariants.{Failed}
 use Rattle.ircd.specs.Serving.{IsServerOf}
@@ -25,5 +27,6 @@ returns c = record {
   config = c.in_ok-config.field-0;
   configures = c.in_ok-config.ensures;
   no_fault = c.in_ok-server.ensures.0;
-  server_is = c.in_ok-server.ensures.1;
+  server_is = c.in_ok-server.ensures.1
+      ∙ ap (λ programs. Some (served_view programs c.in_ok-config.field-0)) c.programs.ensures;
 }
