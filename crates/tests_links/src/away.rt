@@ -28,29 +28,29 @@ hears 8 NICK cy 1 u h 1 + :Cy";
 /// What a user says of itself.
 const SET: &str = "\
 says 1 AWAY :at lunch
+to 1 :a.net 306 al :You have been marked as being away
 on 7 :al MODE al +a :at lunch
 on 8 :al MODE al +a :at lunch
-to 1 :a.net 306 al :You have been marked as being away
 # The same text is told to nobody again.
 says 1 AWAY :at lunch
 to 1 :a.net 306 al :You have been marked as being away
 says 1 away tea
+to 1 :a.net 306 al :You have been marked as being away
 on 7 :al MODE al +a :tea
 on 8 :al MODE al +a :tea
-to 1 :a.net 306 al :You have been marked as being away
 says 1 AWAY :
+to 1 :a.net 305 al :You are no longer marked as being away
 on 7 :al MODE al -a
 on 8 :al MODE al -a
-to 1 :a.net 305 al :You are no longer marked as being away
 says 1 AWAY
 to 1 :a.net 305 al :You are no longer marked as being away";
 
 /// Who is told of it.
 const TOLD: &str = "\
 says 1 AWAY :at lunch
+to 1 :a.net 306 al :You have been marked as being away
 on 7 :al MODE al +a :at lunch
 on 8 :al MODE al +a :at lunch
-to 1 :a.net 306 al :You have been marked as being away
 says 2 PRIVMSG AL :hi
 to 1 :an!u@h PRIVMSG al :hi
 to 2 :a.net 301 an al :at lunch
@@ -139,9 +139,9 @@ on 7 :al PRIVMSG zed :hi";
 /// A new neighbour is told of who is away behind who is there.
 const BURST: &str = "\
 says 1 AWAY :at lunch
+to 1 :a.net 306 al :You have been marked as being away
 on 7 :al MODE al +a :at lunch
 on 8 :al MODE al +a :at lunch
-to 1 :a.net 306 al :You have been marked as being away
 hears 7 :bo MODE bo +a :gone home
 on 8 :bo MODE bo +a :gone home
 called 9
