@@ -11,6 +11,7 @@
   small    a burst that does not fit into the room of a link closes it, and nobody else
   liars    peers with a wrong password, an unknown name, a name that is there, or lines out of place are closed
   counted  a peer that counts pieces is told how many were read, is read as it meant what it wrote, and is closed where it counts too many
+  absent   who is away is told to a peer that said both words and by it, and neither to nor by one that said one of them or none
   doors    a peer at the clients' port stays a client, and a client at the links' port is closed
   silent   peers that connect and say nothing, or no end of a line, change nothing
   knocking who connects at the links' door without end keeps nobody waiting, and new clients come in by theirs
@@ -633,7 +634,7 @@ def counted(program):
     with network:
         peer = network.peer("a.net", "w.net", greets=False)
         peer.says(f"PASS {PASSWORD} 0210010001 TREE| exact1", "SERVER w.net 1 1 :A peer")
-        greets = peer.sees("^PASS ").endswith(" exact1")
+        greets = peer.sees("^PASS ").endswith(" TREE| exact1")
         peer.sees("^SERVER ")
         peer.says("NICK ww 1 u peer.example 1 + :W", ":ww JOIN #den")
         al.sees(":ww!")
@@ -657,6 +658,44 @@ def counted(program):
                     "it is answered with the word, al is told as ally what was said to al, 64 pieces behind the last count are counted, what is marked "
                     "is set and raises otherwise, of two topics at once the greater stays, a channel that has ended there is asked for and one that is there "
                     "told of, what a server raises counts where al has just kicked the one whom it brought, and 1000 end the link")
+
+
+# what peers say behind PASS
+WORDS = {"w.net": " away1 exact1", "x.net": " exact1", "y.net": "", "z.net": " away1 exact1"}
+
+
+def absent(program):
+    with Network(program, ["a.net", "b.net"], [("b.net", "a.net")]) as network:
+        for name in WORDS:
+            network["a.net"].knows(name)
+        for server in network.daemons:
+            network[server].start()
+        network.see_all("a.net", 2)
+        al, bo = network.person("a.net", "al").joins("#den"), network.person("b.net", "bo").joins("#den")
+        al.sees("^:bo![^ ]+ JOIN #den$")
+        peers = {name: greeting(network, name) for name in list(WORDS)[:3]}
+        answered = [peer.sees("^PASS ").endswith(" TREE|" + WORDS[name]) for name, peer in peers.items()]
+        # ww is away, and says so behind its coming; it is told with what is behind that
+        peers["w.net"].says("NICK ww 1 u peer.example 1 + :W", ":ww MODE ww +a :at lunch", ":ww MODE ww +i")
+        sees_all = [peer.sees(r" MODE ww \+[ai]") for peer in (peers["x.net"], peers["y.net"])]
+        late = greeting(network, "z.net")
+        is_told = late.sees(r"^:ww MODE ww \+a") == ":ww MODE ww +a :at lunch"
+        # and who may not tell it is closed for it
+        closed = []
+        for name, nick in (("x.net", "xx"), ("y.net", "yy")):
+            peers[name].says(f"NICK {nick} 1 u peer.example 1 + :{nick}", f":{nick} MODE {nick} +a :at lunch")
+            closed.append(peers[name].ends())
+        is_open = peers["w.net"].is_open() and late.is_open()
+        return told("absent", all(answered) and all(line.endswith("+i") for line in sees_all) and is_told and all(closed) and is_open and are_well(network, al, bo),
+                    "each peer is answered with the words that it said, all or some or none; that ww is away goes to another that said all, in its burst, "
+                    "and not to one that said less, which is closed where it tells of it")
+
+
+def greeting(network, name):
+    """A peer that calls a.net with its words."""
+    peer = network.peer("a.net", name, greets=False)
+    peer.says(f"PASS {PASSWORD} 0210010001 TREE|{WORDS[name]}", f"SERVER {name} 1 1 :A peer")
+    return peer
 
 
 def pieces_of(peer):
@@ -830,7 +869,7 @@ def waiting(program):
                     taken.append(network.keep(door.accept()[0]))
                 else:
                     greeting += one.recv(65536)
-        return told("waiting", took < 1 and longest < 0.2 and is_under_way and greeting.startswith(b"PASS pw 0210010001 TREE| exact1\r\nSERVER b.net 1 1 :"),
+        return told("waiting", took < 1 and longest < 0.2 and is_under_way and greeting.startswith(b"PASS pw 0210010001 TREE| away1 exact1\r\nSERVER b.net 1 1 :"),
                     f"ready in {took * 1000:.0f} ms, and answers within {longest * 1000:.1f} ms while its call is under way; the call that is taken at last greets")
 
 
@@ -1200,7 +1239,7 @@ def spoken(program):
     return goes_on(program, {"stderr": None, "preexec_fn": lambda: os.close(2)}, "closed") and held
 
 
-PARTS = [people, clash, lost, burst, joined, wild, deaf, small, liars, counted, doors, silent, knocking, reset, waiting, refused, files, late, again, crossing,
+PARTS = [people, clash, lost, burst, joined, wild, deaf, small, liars, counted, absent, doors, silent, knocking, reset, waiting, refused, files, late, again, crossing,
          ring, flooding, probed, spoken]
 
 

@@ -12,8 +12,8 @@ use Rattle.irc_crossing.specs.Examples.{NextIsUnset, RaisesBehindOut, SpellingSt
 use Rattle.irc_crossing.specs.Examples.{ComerIsBrought, OthersAreNotAsked}
 use Rattle.irc_crossing.specs.Examples.{GoneIsLeftOut, InviteIsLeftOut, KeyStays, KeyYields}
 use Rattle.irc_crossing.specs.Examples.{KickIsFollowed, KickIsSet, ModeIsSet, OperatorIsBrought}
-use Rattle.irc_crossing.specs.Examples.{OperatorStays, OthersStay, PrivateYields, TopicIsSet}
-use Rattle.irc_crossing.specs.Examples.{TopicStays, TopicYields}
+use Rattle.irc_crossing.specs.Examples.{OperatorStays, OthersStay, OwnGoesWithIt, PrivateYields}
+use Rattle.irc_crossing.specs.Examples.{TopicIsSet, TopicStays, TopicYields}
 use Rattle.irc_crossing.specs.Examples.{KickIsLeftOut, KillIsFollowed, KilledIsFollowed}
 use Rattle.irc_crossing.specs.Examples.{LetterIsLeftOut, MetGoes, MetIsGiven, MetIsKilled}
 use Rattle.irc_crossing.specs.Examples.{ModeIsLeftOut, NextIsSpared, PartIsLeftOut, TextIsLeftOut}
@@ -120,6 +120,10 @@ topic_is_set = refl
 pub kick_is_set : KickIsSet
 unfolding read_of is_nick is_channel fold fold_table line_text cut
 kick_is_set = refl
+
+pub own_goes_with_it : OwnGoesWithIt
+unfolding read_of is_nick is_channel fold fold_table line_text cut
+own_goes_with_it = record { mode = refl; away = refl; next = refl; logged = refl }
 
 pub operator_is_brought : OperatorIsBrought
 unfolding read_of is_nick is_channel fold fold_table line_text cut

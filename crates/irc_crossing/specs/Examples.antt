@@ -121,6 +121,15 @@ abbrev pub KickIsSet : Type 0
 KickIsSet = given_after (codes ":a.net KILL bo :bad") (codes ":bo KICK #c al :out")
     ≡ set_to (codes ":b.net KICK #c al :out")
 
+-- what it sets of itself goes with it, be it mode i or that it is away; so it is where somebody
+-- else has taken the nickname. Nobody sets it but itself, so nothing is logged of it.
+pub record OwnGoesWithIt : Type 0 where
+  pub mode : given_after (codes ":a.net KILL bo :bad") (codes ":bo MODE bo +i") ≡ LeftOut
+  pub away : given_after (codes ":a.net KILL bo :bad") (codes ":bo MODE bo +a :at lunch")
+      ≡ LeftOut
+  pub next : given_after (codes "NICK bo 1 u h 1 + :Bo") (codes ":bo MODE bo -a") ≡ LeftOut
+  pub logged : log_of 1 (codes ":al MODE al +a :out" ∷ codes ":al MODE al +i" ∷ []) [] ≡ []
+
 -- ---- a channel that is begun at both ends
 
 abbrev pub begun : List ℕ → List ℕ

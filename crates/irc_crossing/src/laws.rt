@@ -8,7 +8,8 @@ ghost use Rattle.irc_crossing.specs.Examples.{RaisesBehindOut, SpellingStays};
 ghost use Rattle.irc_crossing.specs.Examples.{ComerIsBrought, OthersAreNotAsked};
 ghost use Rattle.irc_crossing.specs.Examples.{GoneIsLeftOut, InviteIsLeftOut, KeyStays};
 ghost use Rattle.irc_crossing.specs.Examples.{KeyYields, KickIsSet, ModeIsSet, OperatorIsBrought};
-ghost use Rattle.irc_crossing.specs.Examples.{OperatorStays, OthersStay, PrivateYields};
+ghost use Rattle.irc_crossing.specs.Examples.{OperatorStays, OthersStay, OwnGoesWithIt};
+ghost use Rattle.irc_crossing.specs.Examples.{PrivateYields};
 ghost use Rattle.irc_crossing.specs.Examples.{TopicIsSet, TopicStays, TopicYields};
 ghost use Rattle.irc_crossing.specs.Examples.{KickIsFollowed, KickIsLeftOut, KillIsFollowed};
 ghost use Rattle.irc_crossing.specs.Examples.{KilledIsFollowed, LetterIsLeftOut, MetGoes};
@@ -123,6 +124,7 @@ pub fn gone_lines()
     ensures mode { ModeIsSet }
     ensures topic { TopicIsSet }
     ensures kick { KickIsSet }
+    ensures own { OwnGoesWithIt }
 {}
 
 /// Two lines behind one another, and the log.

@@ -3,14 +3,16 @@ use Rattle.std.proofs.Common.{◌≡◌, ℕ, Bool, true, false, List, length, n
 use Rattle.std.proofs.Common.{◌∙◌, ap, if◌then◌else◌}
 use Rattle.irc_link_end.specs.LinkEnds.{after_piece_out, way_out}
 use Rattle.irc_link_end.specs.declared.greeting.WayOut.{WayOut}
-use Rattle.irc_link_end.specs.declared.greeting.WayOut.TheVariants.{Plain, WithWord, InPiece}
+use Rattle.irc_link_end.specs.declared.greeting.WayOut.TheVariants.{Plain, WithWords, InPiece}
 use Rattle.irc_crossing.specs.Hearing.{logged_of}
 use Rattle.irc_crossing.specs.Logs.{put_out}
 use Rattle.irc_layer.specs.declared.end.Cause.{Cause}
 use Rattle.irc_layer.specs.declared.end.End.{End}
+use Rattle.irc_layer.specs.Away.{has_no_place}
 use Rattle.irc_layer.specs.Ends.{is_full}
 use Rattle.irc_layer.specs.Laws.{FullLogsStay}
-use Rattle.irc_layer.specs.Putting.{behind_piece, body, end_by, is_echo, with_begun, with_line_out}
+use Rattle.irc_layer.specs.Putting.{behind_own, behind_piece, body, end_by, is_echo, with_begun}
+use Rattle.irc_layer.specs.Putting.{with_line_out}
 
 begun_log : (lines : ℕ) (end : End) → (with_begun lines end).log ≡ end.log
 begun_log lines end = by (nat_eq end.left 0)
@@ -33,7 +35,7 @@ piece_log begins lines line end full =
 way_log : (way : WayOut) (cause : Cause) (link lines : ℕ) (line : List ℕ) (end : End)
     → is_full end ≡ true → (end_by way cause link lines line end).log ≡ end.log
 way_log Plain cause link lines line end full = refl
-way_log WithWord cause link lines line end full = refl
+way_log (WithWords offer) cause link lines line end full = refl
 way_log InPiece cause link lines line end full = by (is_echo cause link (body line))
   where
     by : (b : Bool) → (if b then end else behind_piece cause.begins lines line end).log ≡ end.log
@@ -41,5 +43,8 @@ way_log InPiece cause link lines line end full = by (is_echo cause link (body li
     by false = piece_log cause.begins lines line end full
 
 pub full_logs_stay : FullLogsStay
-full_logs_stay cause link lines line end full =
-    way_log (way_out end.link) cause link lines line (with_line_out end) full
+full_logs_stay cause link lines line end full = by (has_no_place (body line) end.link)
+  where
+    by : (b : Bool) → (if b then end else behind_own cause link lines line end).log ≡ end.log
+    by true = refl
+    by false = way_log (way_out end.link) cause link lines line (with_line_out end) full

@@ -5,7 +5,8 @@ use Rattle.irc_line.specs.Bytes.{cut}
 use Rattle.irc_line.specs.Messages.{line_text}
 use Rattle.irc_line.specs.Reading.{read_of}
 use Rattle.irc_names.specs.Names.{is_channel}
-use Rattle.irc_layer.specs.Examples.{AskIsRead, CountIsInFront, KickIsUnspoken, KillDoesNotGoBack}
+use Rattle.irc_layer.specs.Examples.{AskIsRead, AwayIsHeardWhereOffered, AwayIsToldWhereOffered}
+use Rattle.irc_layer.specs.Examples.{CountIsInFront, KickIsUnspoken, KillDoesNotGoBack}
 use Rattle.irc_layer.specs.Examples.{LostServersAreOne, SetIsMarked}
 
 pub count_is_in_front : CountIsInFront
@@ -31,3 +32,15 @@ kick_is_unspoken = refl
 pub ask_is_read : AskIsRead
 unfolding read_of is_channel line_text cut
 ask_is_read = record { written = refl; read = refl; plain = refl }
+
+pub away_is_told_where_offered : AwayIsToldWhereOffered
+unfolding read_of line_text cut digits
+away_is_told_where_offered = refl
+
+pub away_is_heard_where_offered : AwayIsHeardWhereOffered
+unfolding read_of line_text cut digits
+away_is_heard_where_offered = record {
+  both = refl;
+  one = record { away = refl; back = refl; other = refl };
+  none = record { away = refl; back = refl; other = refl };
+}

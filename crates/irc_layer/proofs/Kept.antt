@@ -10,12 +10,13 @@ use Rattle.irc_pieces.specs.declared.count.Mark.{Mark}
 use Rattle.irc_pieces.specs.Tallies.{count_for}
 use Rattle.irc_link_end.specs.LinkEnds.{way_out}
 use Rattle.irc_link_end.specs.declared.greeting.WayOut.{WayOut}
-use Rattle.irc_link_end.specs.declared.greeting.WayOut.TheVariants.{Plain, WithWord, InPiece}
+use Rattle.irc_link_end.specs.declared.greeting.WayOut.TheVariants.{Plain, WithWords, InPiece}
 use Rattle.irc_layer.specs.declared.end.Cause.{Cause}
 use Rattle.irc_layer.specs.declared.end.End.{End}
+use Rattle.irc_layer.specs.Away.{has_no_place}
 use Rattle.irc_layer.specs.Ends.{Ends}
 use Rattle.irc_layer.specs.Putting.{all_put, body, count_at, count_before, count_out, ends_behind}
-use Rattle.irc_layer.specs.Putting.{is_echo, is_unspoken, line_put, one_put, out_by}
+use Rattle.irc_layer.specs.Putting.{is_echo, is_unspoken, line_put, one_put, out_by, own_out}
 use Rattle.irc_layer.specs.Putting.{piece_lines, piece_out, with_line_out}
 
 -- of a test that no line on a link passes
@@ -58,7 +59,7 @@ module _ (test : Sent → Bool) (none : (link : ℕ) (line : List ℕ) → test 
         → list_any test (out_by way cause link lines line end) ≡ false
     out_fails Plain cause link lines line end =
         unless_fails (is_unspoken cause (body line)) (line_on link line ∷ []) (one_fails link line)
-    out_fails WithWord cause link lines line end = one_fails link _
+    out_fails (WithWords offer) cause link lines line end = one_fails link _
     out_fails InPiece cause link lines line end =
         unless_fails (is_echo cause link (body line)) (piece_out cause.mark link lines line end)
         (piece_fails cause.mark link lines line end)
@@ -67,7 +68,8 @@ module _ (test : Sent → Bool) (none : (link : ℕ) (line : List ℕ) → test 
         → list_any test (line_put cause link lines line end) ≡ false
     line_fails cause link lines line None = one_fails link line
     line_fails cause link lines line (Some end) =
-        out_fails (way_out end.link) cause link lines line (with_line_out end)
+        unless_fails (has_no_place (body line) end.link) (own_out cause link lines line end)
+        (out_fails (way_out end.link) cause link lines line (with_line_out end))
 
     pub lines_fail : (link : ℕ) (lines : List (List ℕ))
         → list_any test (map (line_on link) lines) ≡ false

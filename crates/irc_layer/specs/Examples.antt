@@ -4,10 +4,14 @@ use Rattle.std.specs.Prelude.{if◌then◌else◌}
 use Rattle.irc_line.specs.Bytes.{crlf}
 use Rattle.irc_line.specs.Messages.{text}
 use Rattle.irc_batch.specs.Batches.{Sent, line_on, line_to}
+use Rattle.irc_batch.specs.declared.close_reason.CloseReason.TheVariants.{Parameters}
 use Rattle.irc_link_end.specs.declared.greeting.Greeting.TheVariants.{Whole}
+use Rattle.irc_link_end.specs.declared.offer.Offer.TheVariants.{Away, Pieces}
+use Rattle.irc_link_end.specs.LinkEnds.{alone}
+use Rattle.irc_pieces.specs.declared.piece_end.Heard.TheVariants.{Fault}
 use Rattle.irc_layer.specs.declared.end.End.{End}
 use Rattle.irc_layer.specs.Asking.{asked_of, tell_parts}
-use Rattle.irc_layer.specs.Ends.{Ends}
+use Rattle.irc_layer.specs.Ends.{heard_by, Ends}
 use Rattle.irc_layer.specs.Layers.{by_itself, by_line, by_setting}
 use Rattle.irc_layer.specs.Putting.{all_put}
 
@@ -16,8 +20,8 @@ abbrev pub counting : (read told : ℕ) → End
 counting read told = record {
   link = record {
     calls = true;
-    offers = true;
-    is_offered = true;
+    offers = Some Pieces;
+    offered = Some Pieces;
     greeting = Whole;
     is_met = true;
     pieces = record {
@@ -77,7 +81,7 @@ SetIsMarked =
 
 -- A KICK of a server, and an NJOIN of nobody, do not go on a link without counts; 5 is one.
 abbrev pub not_counting : End
-not_counting = record (counting 0 0) { link = record (counting 0 0).link { offers = false } }
+not_counting = record (counting 0 0) { link = record (counting 0 0).link { offers = None } }
 
 abbrev pub without_counts : Ends
 without_counts link = if nat_eq 5 link then Some not_counting else None
@@ -93,3 +97,43 @@ pub record AskIsRead : Type 0 where
   pub written : text (tell_parts (codes "#c")) ≡ codes "TELL #c" ++ crlf
   pub read : asked_of (codes "TELL #c") (counting 0 0) ≡ Some (codes "#c")
   pub plain : asked_of (codes "TELL #c") not_counting ≡ None
+
+-- Who is away is told where both ends have offered that. 6 is a link of two that have, of 7 the
+-- other end has offered to count pieces alone, and 5 is one without counts.
+abbrev pub both_tell : End
+both_tell = record (counting 0 0) {
+  link = record (counting 0 0).link { offers = Some Away; offered = Some Away };
+}
+
+abbrev pub one_tells : End
+one_tells = record (counting 0 0) {
+  link = record (counting 0 0).link { offers = Some Away };
+}
+
+abbrev pub three_links : Ends
+three_links link = if nat_eq 5 link then Some not_counting
+    else (if nat_eq 6 link then Some both_tell
+    else (if nat_eq 7 link then Some one_tells else None))
+
+-- a line on each of them
+abbrev pub on_each : List ℕ → List Sent
+on_each line = on 5 line ∷ on 6 line ∷ on 7 line ∷ []
+
+abbrev pub AwayIsToldWhereOffered : Type 0
+AwayIsToldWhereOffered =
+    all_put by_itself (on_each (codes ":al MODE al +a :at lunch") ++ on_each (codes ":al MODE al -a")
+    ++ on_each (codes ":al MODE al +i")) three_links
+    ≡ on 6 (codes ":al MODE al +a :at lunch") ∷ on 6 (codes ":al MODE al -a")
+    ∷ on_each (codes ":al MODE al +i")
+
+-- a line that tells it closes any other link, in any case of the command
+pub record AwayIsRefused (end : End) : Type 0 where
+  pub away : heard_by (codes ":bo MODE bo +a :at lunch") end ≡ Fault Parameters
+  pub back : heard_by (codes ":bo mode bo -a") end ≡ Fault Parameters
+  pub other : heard_by (codes ":bo MODE bo +i") end ≡ alone (codes ":bo MODE bo +i")
+
+pub record AwayIsHeardWhereOffered : Type 0 where
+  pub both : heard_by (codes ":bo MODE bo +a :at lunch") both_tell
+      ≡ alone (codes ":bo MODE bo +a :at lunch")
+  pub one : AwayIsRefused one_tells
+  pub none : AwayIsRefused not_counting

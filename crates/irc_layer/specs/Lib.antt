@@ -1,4 +1,5 @@
 pub mod Asking
+pub mod Away
 pub mod Ends
 pub mod Examples
 pub mod Holding

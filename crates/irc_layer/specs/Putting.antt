@@ -16,7 +16,7 @@
 --     to c.net    :b.net MODE #c +i          a.net writes    COUNT 5 1 set
 --                                                            :b.net MODE #c +i
 -- On a link that does not count such a MODE or TOPIC goes alone, and raises there; a KICK and an
--- NJOIN of nobody do not go.
+-- NJOIN of nobody do not go. Who is away is told where both ends have offered that (`Away.antt`).
 use Rattle.std.specs.Prelude.{ℕ, suc, ◌-◌, Bool, false, ◌&&◌, ◌||◌, is_some, Option, Some, None}
 use Rattle.std.specs.Prelude.{Result, Ok, Err, List, [], ◌∷◌, ◌++◌, codes, length, take, min}
 use Rattle.std.specs.Prelude.{nat_eq, if◌then◌else◌}
@@ -30,9 +30,9 @@ use Rattle.irc_pieces.specs.declared.count.Mark.{Mark}
 use Rattle.irc_pieces.specs.Counting.{count_parts}
 use Rattle.irc_pieces.specs.Tallies.{count_alone, count_for}
 use Rattle.irc_link_end.specs.LinkEnds.{after_count_out, after_line_out, after_piece_out, way_out}
-use Rattle.irc_link_end.specs.Offers.{with_word}
+use Rattle.irc_link_end.specs.Offers.{with_words}
 use Rattle.irc_link_end.specs.declared.greeting.WayOut.{WayOut}
-use Rattle.irc_link_end.specs.declared.greeting.WayOut.TheVariants.{Plain, WithWord, InPiece}
+use Rattle.irc_link_end.specs.declared.greeting.WayOut.TheVariants.{Plain, WithWords, InPiece}
 use Rattle.irc_link_words.specs.Words.{is_command}
 use Rattle.irc_crossing.specs.Hearing.{logged_of}
 use Rattle.irc_crossing.specs.Lines.{brings_nobody, is_kick_line, is_kill_line}
@@ -41,6 +41,7 @@ use Rattle.irc_layer.specs.declared.end.Cause.{Cause}
 use Rattle.irc_layer.specs.declared.end.End.{End}
 use Rattle.irc_layer.specs.declared.putting.NextLine.{NextLine}
 use Rattle.irc_layer.specs.declared.putting.NextLine.TheVariants.{Another, Elsewhere, Squit}
+use Rattle.irc_layer.specs.Away.{has_no_place}
 use Rattle.irc_layer.specs.Ends.{change_end, is_full, with_end, Ends}
 
 -- a line without its CR LF
@@ -132,7 +133,8 @@ behind_piece begins lines line end = with_logged begins line (with_begun lines e
 abbrev pub out_by : WayOut → Cause → ℕ → ℕ → List ℕ → End → List Sent
 out_by Plain cause link lines line end =
     if is_unspoken cause (body line) then [] else line_on link line ∷ []
-out_by WithWord cause link lines line end = line_on link (with_word (body line)) ∷ []
+out_by (WithWords offer) cause link lines line end =
+    line_on link (with_words offer (body line)) ∷ []
 out_by InPiece cause link lines line end =
     if is_echo cause link (body line) then [] else piece_out cause.mark link lines line end
 
@@ -140,20 +142,29 @@ abbrev pub end_by : WayOut → Cause → ℕ → ℕ → List ℕ → End → En
 end_by InPiece cause link lines line end =
     if is_echo cause link (body line) then end else behind_piece cause.begins lines line end
 end_by Plain cause link lines line end = end
-end_by WithWord cause link lines line end = end
+end_by (WithWords offer) cause link lines line end = end
 
 -- an end that has put out a line more of those with which a link begins
 abbrev pub with_line_out : End → End
 with_line_out end = record end { link = after_line_out end.link }
 
--- what a line on a link is put out as, and the end behind it
+-- what a line on a link is put out as that this has a place for, and the end behind it
+abbrev pub own_out : Cause → ℕ → ℕ → List ℕ → End → List Sent
+own_out cause link lines line end =
+    out_by (way_out end.link) cause link lines line (with_line_out end)
+
+abbrev pub behind_own : Cause → ℕ → ℕ → List ℕ → End → End
+behind_own cause link lines line end =
+    end_by (way_out end.link) cause link lines line (with_line_out end)
+
+-- any line
 abbrev pub line_out : Cause → ℕ → ℕ → List ℕ → End → List Sent
 line_out cause link lines line end =
-    out_by (way_out end.link) cause link lines line (with_line_out end)
+    if has_no_place (body line) end.link then [] else own_out cause link lines line end
 
 abbrev pub behind_line : Cause → ℕ → ℕ → List ℕ → End → End
 behind_line cause link lines line end =
-    end_by (way_out end.link) cause link lines line (with_line_out end)
+    if has_no_place (body line) end.link then end else behind_own cause link lines line end
 
 -- ---- all that a server puts out, for a cause
 

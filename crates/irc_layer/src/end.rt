@@ -7,18 +7,20 @@ ghost use Rattle.irc_crossing.specs.Asking.{asked};
 ghost use Rattle.irc_crossing.specs.Hearing.{given};
 ghost use Rattle.irc_crossing.specs.Raising.{raises};
 ghost use Rattle.irc_layer.specs.Asking.{asked_of};
+ghost use Rattle.irc_layer.specs.Away.{has_no_place};
 ghost use Rattle.irc_layer.specs.Ends.{end_hearing, heard_by, is_full, is_plain, met_if, new_end};
 ghost use Rattle.irc_layer.specs.Ends.{with_log_after};
-ghost use Rattle.irc_layer.specs.Putting.{behind_line, behind_piece, body, count_at, count_before};
-ghost use Rattle.irc_layer.specs.Putting.{count_out, is_echo, is_kill_read, is_squit, is_unknown};
-ghost use Rattle.irc_layer.specs.Putting.{is_unspoken, line_out};
+ghost use Rattle.irc_layer.specs.Putting.{behind_line, behind_own, behind_piece, body, count_at};
+ghost use Rattle.irc_layer.specs.Putting.{count_before, count_out, is_echo, is_kill_read, is_squit};
+ghost use Rattle.irc_layer.specs.Putting.{is_unknown, is_unspoken, line_out, own_out};
 ghost use Rattle.irc_layer.specs.Putting.{piece_out, with_begun, with_count_out};
 
 use crate::asking::asked_by;
+use crate::away::tells_away;
 use irc_batch::{Batch, CloseReason};
 use irc_crossing::{Given, Log, brings_nobody};
 use irc_line::{Line, parse};
-use irc_link_end::{LinkEnd, WayOut, with_word};
+use irc_link_end::{LinkEnd, Offer, WayOut, with_words};
 use irc_link_words::is_command;
 use irc_names::{ChannelName, ServerName, same};
 use irc_pieces::{Count, Heard, Mark, count_text};
@@ -65,12 +67,13 @@ pub(crate) struct PieceOn {
 
 impl End {
     /// That of a link that begins: of a server that calls the one of this name, which may be known
-    /// to know no pieces, or is called.
+    /// to refuse words, or is called.
     pub fn new(alloc: Global, name: Option<&ServerName>, plain: &[ServerName]) -> Self
         ensures { result ≡ new_end (option_copied name.entry) plain.now }
     {
         let link = match name {
-            Some(name) => LinkEnd::calling(alloc, !is_plain(plain, name)),
+            Some(name) if is_plain(plain, name) => LinkEnd::calling(alloc, None),
+            Some(_) => LinkEnd::calling(alloc, Some(Offer::Away)),
             None => LinkEnd::called(alloc),
         };
         End {
@@ -81,7 +84,7 @@ impl End {
     }
 
     /// Takes a line that has come: what of it is for the server. Where the log is full still, it
-    /// was due to say what it has read.
+    /// was due to say what it has read; one that the link has no place for is none of its lines.
     ///
     /// # Errors
     /// Where memory runs out.
@@ -89,12 +92,23 @@ impl End {
         ensures heard { IfOk result (λ heard. heard ≡ heard_by line.items self.old) }
         ensures after { OnOk result (self.new ≡ end_hearing line.items self.old) }
     {
+        let has_no_place = self.has_no_place(line.as_slice());
         let heard = self.link.hear(line)?;
         self.log.count(self.link.taken());
         if self.is_full() {
             return Ok(Heard::Fault(CloseReason::Order));
         }
+        if has_no_place {
+            return Ok(Heard::Fault(CloseReason::Parameters));
+        }
         Ok(heard)
+    }
+
+    /// Whether a line tells who is away, where the two ends have not both offered to tell it.
+    fn has_no_place(&self, line: &[u8]) -> bool
+        ensures { result ≡ has_no_place line.now self.now.link }
+    {
+        !self.link.tells_away() && tells_away(line)
     }
 
     /// Whether the other end has said too little of what it has read.
@@ -152,7 +166,8 @@ impl End {
         }
     }
 
-    /// Puts out a line on this link, with which a piece of so many lines begins if none has begun.
+    /// Puts out a line on this link, with which a piece of so many lines begins if none has begun;
+    /// one that the link has no place for is left out.
     ///
     /// # Errors
     /// Where memory runs out.
@@ -169,10 +184,32 @@ impl End {
         ensures after { OnOk result
             (self.new ≡ behind_line cause to.link to.lines line.now self.old) }
     {
+        if self.has_no_place(body(line)) {
+            return Ok(());
+        }
+        self.put_own(cause, to, line, out)
+    }
+
+    /// Puts out a line that the link has a place for.
+    fn put_own(
+        &mut self,
+        cause: Cause,
+        to: PieceOn,
+        line: &[u8],
+        out: &mut Batch,
+    ) -> Result<(), AllocError>
+        requires fits { length line.now ≤ max_text }
+        ensures outs { OnOk result
+            (out.new.outs ≡ out.old.outs ++ own_out cause to.link to.lines line.now self.old) }
+        ensures after { OnOk result
+            (self.new ≡ behind_own cause to.link to.lines line.now self.old) }
+    {
         match self.link.put_out_line() {
             WayOut::Plain if is_unspoken(cause, body(line)) => Ok(()),
             WayOut::Plain => out.put_on(to.link, line),
-            WayOut::WithWord => out.put_on(to.link, with_word(body(line)).as_slice()),
+            WayOut::WithWords(offer) => {
+                out.put_on(to.link, with_words(offer, body(line)).as_slice())
+            }
             WayOut::InPiece if is_echo(cause, to.link, body(line)) => Ok(()),
             WayOut::InPiece => self.put_piece(cause, to, line, out),
         }
@@ -239,7 +276,7 @@ fn put_count(link: u64, count: Option<Count>, out: &mut Batch) -> Result<(), All
     }
 }
 
-/// Whether a server is one of those that are known to know no pieces.
+/// Whether a server is one of those that are known to refuse words.
 fn is_plain(plain: &[ServerName], name: &ServerName) -> bool
     ensures { result ≡ is_plain plain.now name.now }
 {

@@ -1,6 +1,7 @@
 //! What a layer puts out, computed, and how long a log gets. A law is a function that does nothing,
 //! and its contract is the law: the check proves it.
-ghost use Rattle.irc_layer.specs.Examples.{AskIsRead, CountIsInFront, KickIsUnspoken};
+ghost use Rattle.irc_layer.specs.Examples.{AskIsRead, AwayIsHeardWhereOffered};
+ghost use Rattle.irc_layer.specs.Examples.{AwayIsToldWhereOffered, CountIsInFront, KickIsUnspoken};
 ghost use Rattle.irc_layer.specs.Examples.{KillDoesNotGoBack};
 ghost use Rattle.irc_layer.specs.Examples.{LostServersAreOne, SetIsMarked};
 ghost use Rattle.irc_layer.specs.Laws.{FullLogsStay};
@@ -18,4 +19,6 @@ pub fn lines_put_out()
     ensures set { SetIsMarked }
     ensures unspoken { KickIsUnspoken }
     ensures ask { AskIsRead }
+    ensures away { AwayIsToldWhereOffered }
+    ensures heard { AwayIsHeardWhereOffered }
 {}

@@ -27,7 +27,7 @@ pub struct Layer {
     pub(crate) server: Server,
     /// The end of each link.
     pub(crate) ends: Ends,
-    /// The servers that are called without the word, since they know no pieces.
+    /// The servers that are called without words, since they refuse them.
     plain: Vec<ServerName, Global>,
     /// What is to be put out by the event at hand.
     pub(crate) held: Batch,
@@ -35,8 +35,8 @@ pub struct Layer {
 }
 
 impl Layer {
-    /// A layer around a server that has no link; these servers are called without the word by which
-    /// two ends agree to count pieces.
+    /// A layer around a server that has no link; these servers are called without the words by which
+    /// two ends agree to count pieces and to tell who is away.
     pub fn new(alloc: Global, server: Server, plain: Vec<ServerName, Global>) -> Self
         ensures { IsAround server plain.items result }
     {

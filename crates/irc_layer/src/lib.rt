@@ -4,6 +4,7 @@
 #![tactic(auto)]
 
 mod asking;
+mod away;
 mod end;
 mod giving;
 mod holding;

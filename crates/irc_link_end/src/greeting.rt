@@ -1,4 +1,5 @@
 //! The two lines with which a link begins, and the ways in which lines go out.
+use crate::offer::Offer;
 
 /// How much was put out of the two lines with which a link begins (RFC 2813 section 4.1).
 #[derive(Clone, Copy, Debug, Drop, PartialEq, Eq)]
@@ -16,8 +17,8 @@ pub(crate) enum Greeting {
 pub enum WayOut {
     /// As it is.
     Plain,
-    /// It is the PASS of an end that counts pieces: with the word.
-    WithWord,
+    /// It is the PASS of an end that offers this: with the words.
+    WithWords(Offer),
     /// As part of a piece.
     InPiece,
 }

@@ -2,11 +2,13 @@
 ghost use Rattle.std.specs.Prelude.{◌≡◌, ◌≤◌, length, IfOk, OnOk};
 ghost use Rattle.irc_pieces.specs.Tallies.{count_alone, count_for, unread};
 ghost use Rattle.irc_link_end.specs.LinkEnds.{after_count_out, after_first, after_hearing};
-ghost use Rattle.irc_link_end.specs.LinkEnds.{after_line_out, after_piece_out, alone, called};
-ghost use Rattle.irc_link_end.specs.LinkEnds.{calling, counts, heard_at, heard_first, met, way_out};
+ghost use Rattle.irc_link_end.specs.LinkEnds.{after_line_out, after_piece_out, alone, answers};
+ghost use Rattle.irc_link_end.specs.LinkEnds.{called, calling, counts, heard_at, heard_first, met};
+ghost use Rattle.irc_link_end.specs.LinkEnds.{tells_away, way_out};
+ghost use Rattle.irc_link_end.specs.Offers.{offers_away};
 
 use crate::greeting::{Greeting, WayOut};
-use crate::offer::without_word;
+use crate::offer::{Offer, offer_in, without_words};
 use irc_line::Line;
 use irc_pieces::{Count, Heard, Mark, Piece, PieceEnd};
 use std::alloc::{AllocError, Global};
@@ -17,10 +19,10 @@ use std::marker::Model;
 pub struct LinkEnd {
     /// Whether this end called.
     calls: bool,
-    /// Whether its PASS has the word.
-    offers: bool,
-    /// Whether the other end's has had it.
-    is_offered: bool,
+    /// What its PASS offers.
+    offers: Option<Offer>,
+    /// What the other end's has offered.
+    offered: Option<Offer>,
     greeting: Greeting,
     /// Whether the other end has named itself.
     is_met: bool,
@@ -36,7 +38,7 @@ impl Model for LinkEnd {
     ghost view = { λ end. record {
       calls = end.calls;
       offers = end.offers;
-      is_offered = end.is_offered;
+      offered = end.offered;
       greeting = end.greeting;
       is_met = end.is_met;
       pieces = end.pieces;
@@ -44,14 +46,15 @@ impl Model for LinkEnd {
 }
 
 impl LinkEnd {
-    /// That of a server that calls another, which may know pieces or is known to know none.
-    pub fn calling(alloc: Global, offers: bool) -> Self
+    /// That of a server that calls another: what it offers, or nothing to one that is known to
+    /// refuse words.
+    pub fn calling(alloc: Global, offers: Option<Offer>) -> Self
         ensures { result ≡ calling offers }
     {
         LinkEnd {
             calls: true,
             offers,
-            is_offered: false,
+            offered: None,
             greeting: Greeting::Nothing,
             is_met: false,
             pieces: PieceEnd::new(alloc),
@@ -65,7 +68,7 @@ impl LinkEnd {
     {
         LinkEnd {
             calls: false,
-            ..LinkEnd::calling(alloc, false)
+            ..LinkEnd::calling(alloc, None)
         }
     }
 
@@ -73,7 +76,14 @@ impl LinkEnd {
     pub fn counts(&self) -> bool
         ensures { result ≡ counts self.now }
     {
-        self.offers && self.is_offered
+        self.offers.is_some() && self.offered.is_some()
+    }
+
+    /// Whether lines of this link tell who is away: both ends have offered it.
+    pub fn tells_away(&self) -> bool
+        ensures { result ≡ tells_away self.now }
+    {
+        offers_away(self.offers) && offers_away(self.offered)
     }
 
     /// How many pieces of this end the other one had not read when it wrote its last count.
@@ -133,15 +143,24 @@ impl LinkEnd {
         ensures heard { IfOk result (λ heard. heard ≡ heard_first line.items self.old) }
         ensures after { OnOk result (self.new ≡ after_first line.items self.old) }
     {
-        match without_word(&line) {
-            Some(rest) if self.offers || !self.calls => {
-                let rest = copied(rest);
-                self.offers = true;
-                self.is_offered = true;
+        match offer_in(&line) {
+            Some(offer) if self.offers.is_some() || !self.calls => {
+                let rest = copied(without_words(offer, &line));
+                self.answer(offer);
                 self.pass(rest)
             }
             _ => self.pass(line),
         }
+    }
+
+    /// The other end's PASS offers something: an end that was called offers just that.
+    fn answer(&mut self, offer: Offer)
+        ensures { self.new ≡ answers offer self.old }
+    {
+        if !self.calls {
+            self.offers = Some(offer);
+        }
+        self.offered = Some(offer);
     }
 
     /// A line is for the server as it is.
@@ -161,9 +180,9 @@ impl LinkEnd {
         ensures way { result ≡ way_out self.old }
         ensures after { self.new ≡ after_line_out self.old }
     {
-        let way = match self.greeting {
-            Greeting::Nothing if self.offers => WayOut::WithWord,
-            Greeting::Whole if self.counts() => WayOut::InPiece,
+        let way = match (self.greeting, self.offers) {
+            (Greeting::Nothing, Some(offer)) => WayOut::WithWords(offer),
+            (Greeting::Whole, _) if self.counts() => WayOut::InPiece,
             _ => WayOut::Plain,
         };
         self.greeting = match self.greeting {
@@ -188,6 +207,13 @@ impl LinkEnd {
     {
         self.pieces.put_out_alone()
     }
+}
+
+/// Whether it is offered to tell who is away.
+fn offers_away(offer: Option<Offer>) -> bool
+    ensures { result ≡ offers_away offer }
+{
+    matches!(offer, Some(Offer::Away))
 }
 
 /// A line of these bytes, which are a part of one.

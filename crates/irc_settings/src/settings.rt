@@ -107,9 +107,9 @@ pub struct PeerSettings {
     /// After how many seconds it is called again, if it is: 1 to [`crate::MOST_RETRY`]. Only a
     /// server that is called has it.
     pub retry: Option<u16>,
-    /// Whether it is called without the word by which two servers agree to count pieces (`exact1`
-    /// in PASS): one that does not know the word refuses a call that has it. Only a server that is
-    /// called has it.
+    /// Whether it is called without the words by which two servers agree to count pieces and to tell
+    /// who is away (`exact1` and `away1` in PASS): one that does not know a word refuses a call that
+    /// has it. Only a server that is called has it.
     pub plain: bool,
 }
 

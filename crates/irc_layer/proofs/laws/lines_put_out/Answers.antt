@@ -1,5 +1,6 @@
-use Rattle.irc_layer.proofs.Examples.{ask_is_read, count_is_in_front, kick_is_unspoken}
-use Rattle.irc_layer.proofs.Examples.{kill_does_not_go_back}
+use Rattle.irc_layer.proofs.Examples.{ask_is_read, away_is_heard_where_offered}
+use Rattle.irc_layer.proofs.Examples.{away_is_told_where_offered, count_is_in_front}
+use Rattle.irc_layer.proofs.Examples.{kick_is_unspoken, kill_does_not_go_back}
 use Rattle.irc_layer.proofs.Examples.{lost_servers_are_one, set_is_marked}
 use Rattle.irc_layer.proofs.laws.lines_put_out.Goals as goal
 
@@ -20,3 +21,9 @@ returns-clause-set c = set_is_marked
 
 pub returns-clause-unspoken : goal.returns-clause-unspoken
 returns-clause-unspoken c = kick_is_unspoken
+
+pub returns-clause-away : goal.returns-clause-away
+returns-clause-away c = away_is_told_where_offered
+
+pub returns-clause-heard : goal.returns-clause-heard
+returns-clause-heard c = away_is_heard_where_offered
