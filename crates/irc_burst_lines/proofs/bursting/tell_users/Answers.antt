@@ -16,7 +16,7 @@ returns c =
     (λ told. two_told introduced changed _ _ _
     (c.in_ok-tell_each_user.ensures
     ∙ ap (λ users. lines_now c.args.lines.now.items
-          ++ map text (user_lines known c.args.link users))
+    ++ map text (user_lines known c.args.link users))
     (ap users_now c.as_slice.ensures.value ∙ c.in_ok-users.ensures))
     (told
     ∙ ap (λ users. lines_now c.tell_each_user.new.lines.items
