@@ -81,20 +81,20 @@ to 1 :bo!u@h PRIVMSG al :hi
 # It goes with its user, whatever the next is called.
 says 1 QUIT :bye
 to 2 :al!u@h QUIT :bye
-to 1 ERROR :Closing link (bye)
-ends 1
 on 7 :al QUIT :bye
 on 8 :al QUIT :bye
+to 1 ERROR :Closing link (bye)
+ends 1
 connects 3
 says 3 NICK al
 says 3 USER u 0 * :Al
+on 7 NICK al 1 u h 1 + :Al
+on 8 NICK al 1 u h 1 + :Al
 to 3 :a.net 001 al :Welcome to the Internet Relay Network al!u@h
 to 3 :a.net 002 al :Your host is a.net, running version treeircd-1
 to 3 :a.net 003 al :This server was created 2024-01-01
 to 3 :a.net 004 al a.net treeircd-1 i biklmnopstv
 to 3 :a.net 422 al :MOTD File is missing
-on 7 NICK al 1 u h 1 + :Al
-on 8 NICK al 1 u h 1 + :Al
 says 2 WHO al
 to 2 :a.net 352 an * u h a.net al H :0 Al
 to 2 :a.net 315 an al :End of WHO list";
@@ -127,10 +127,10 @@ on 8 :zed MODE zed +a :asleep
 hears 8 :cy MODE cy +a :out
 on 7 :cy MODE cy +a :out
 hears 8 :cy NICK zed
-on 7 :a.net KILL zed :Nick collision
-on 8 :a.net KILL zed :Nick collision
 on 7 :a.net KILL cy :Nick collision
 on 8 :a.net KILL cy :Nick collision
+on 7 :a.net KILL zed :Nick collision
+on 8 :a.net KILL zed :Nick collision
 hears 7 NICK zed 1 u h 1 + :Zed
 on 8 NICK zed 2 u h 2 + :Zed
 says 1 PRIVMSG zed :hi
