@@ -30,7 +30,8 @@ pub(crate) fn decide_for(
 ) -> Result<Decision, AllocError>
     ensures { IfOk result (IsRowFor context.now (parsed message.now)) }
 {
-    let Some((name, command, least)) = Command::find(context.routes.programs(), message.command) else {
+    let Some((name, command, least)) = Command::find(context.routes.programs(), message.command)
+    else {
         return unknown(context.alloc, message.command);
     };
     let params = message.params.as_slice();

@@ -120,10 +120,7 @@ fn words_of_all<'a>(alloc: Global, params: &[&'a [u8]]) -> Result<Vec<&'a [u8], 
 }
 
 /// Appends those of some pieces that are not empty.
-fn add_words<'a>(
-    words: &mut Vec<&'a [u8], Global>,
-    pieces: &[&'a [u8]],
-) -> Result<(), AllocError>
+fn add_words<'a>(words: &mut Vec<&'a [u8], Global>, pieces: &[&'a [u8]]) -> Result<(), AllocError>
     ensures { OnOk result (AddsWords (words_now pieces.now) words.old words.new) }
 {
     for piece in pieces {

@@ -115,11 +115,7 @@ fn put_told(
 }
 
 /// Appends that a user is away, where that is shown.
-fn put_away(
-    steps: &mut Vec<Act, Global>,
-    routes: &Routes,
-    user: &User,
-) -> Result<(), AllocError>
+fn put_away(steps: &mut Vec<Act, Global>, routes: &Routes, user: &User) -> Result<(), AllocError>
     ensures { OnOk result
         (AddsSteps (away_told (place_of routes.now).about.programs user.now) steps.old steps.new) }
 {
