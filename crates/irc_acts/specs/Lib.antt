@@ -8,6 +8,7 @@ pub mod Steps
 pub mod Words
 pub mod CommaLists
 pub mod Standing
+pub mod Away
 pub mod Refusing
 pub mod Ahead
 pub mod AheadLaws

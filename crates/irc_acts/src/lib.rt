@@ -4,6 +4,7 @@
 
 mod act;
 pub mod ahead;
+pub mod away;
 pub mod comma_lists;
 mod context;
 mod name_lines;

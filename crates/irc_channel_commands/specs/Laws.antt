@@ -15,3 +15,4 @@ pub mod WordsCarried
 pub mod InvitationsLaw
 pub mod ModeLaw
 pub mod ChangesLaw
+pub mod AwayLaw

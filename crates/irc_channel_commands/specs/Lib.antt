@@ -5,6 +5,7 @@ pub mod Kick
 pub mod Invite
 pub mod Judging
 pub mod UserMode
+pub mod Away
 pub mod ModesShown
 pub mod ChannelMode
 pub mod Mode

@@ -4,6 +4,7 @@
 #![tactic(auto)]
 
 mod admission;
+pub mod away;
 mod channel_mode;
 pub mod invite;
 pub mod join;

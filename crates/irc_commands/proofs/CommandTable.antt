@@ -16,11 +16,13 @@ use Rattle.irc_acts.specs.Words.{word_at}
 use Rattle.irc_acts.specs.ByTest.{by_test}
 use Rattle.irc_acts.specs.OtherInvitations.{AreAlikeFor}
 use Rattle.irc_queries.specs.Laws.IsonLaw.{ison_only_asks}
+use Rattle.irc_queries.specs.Laws.UserhostLaw.{userhost_only_asks}
 use Rattle.irc_queries.specs.Laws.LusersLaw.{lusers_only_asks}
 use Rattle.irc_queries.specs.Laws.ListLaw.{list_only_asks}
 use Rattle.irc_queries.specs.Laws.WhoisLaw.{whois_only_asks}
 use Rattle.irc_queries.specs.Laws.WhoLaw.{who_only_asks}
 use Rattle.irc_queries.specs.Laws.NamesAsks.{names_only_asks}
+use Rattle.irc_channel_commands.specs.Laws.AwayLaw.{away_is_lawful}
 use Rattle.irc_channel_commands.specs.Laws.InviteLaw.{invite_is_lawful}
 use Rattle.irc_channel_commands.specs.Laws.ModeLaw.{mode_is_lawful}
 use Rattle.irc_channel_commands.specs.Laws.JoinLaw.{join_is_lawful}
@@ -35,6 +37,7 @@ use Rattle.irc_commands.specs.CommandNames.{CommandRow, row_named}
 use Rattle.irc_commands.specs.OwnLines.{is_from}
 use Rattle.irc_commands.specs.OwnInvitations.{DecidedByOwnInvitations}
 use Rattle.irc_commands.specs.Quit.{quit_decided}
+use Rattle.irc_commands.specs.Whowas.{whowas_steps}
 use Rattle.irc_commands.proofs.LawfulRows.{IsSoDecided, IsLawfulRow, lawful, asks, says, either}
 use Rattle.irc_commands.proofs.NickLaw.{nick_is_lawful}
 use Rattle.irc_commands.proofs.SayLaw.{say_is_lawful}
@@ -46,6 +49,11 @@ pinged : (place : Place) (params : List (List ℕ)) → effects_among (ping_step
 unfolding ping_steps
 pinged place [] = refl
 pinged place (word ∷ more) = refl
+
+whowas_quiet : (params : List (List ℕ)) → effects_among (whowas_steps params) ≡ []
+unfolding whowas_steps
+whowas_quiet [] = refl
+whowas_quiet (name ∷ more) = refl
 
 quit_is_lawful : (params : List (List ℕ)) → IsLawfulRow params (λ me room. quit_decided me params)
 quit_is_lawful params = record {
@@ -63,8 +71,10 @@ by_command place params command.Pong = says params [] refl
 by_command place params command.Motd = says params (Answer NoMotd ∷ []) refl
 by_command place params command.Ping = says params (ping_steps place params) (pinged place params)
 by_command place params command.Quit = quit_is_lawful params
-by_command place params command.Privmsg = lawful 0 params (say_is_lawful verb.Privmsg params)
-by_command place params command.Notice = lawful 0 params (say_is_lawful verb.Notice params)
+by_command place params command.Privmsg =
+    lawful 0 params (say_is_lawful place.about.programs verb.Privmsg params)
+by_command place params command.Notice =
+    lawful 0 params (say_is_lawful place.about.programs verb.Notice params)
 by_command place params command.Nick = nick_is_lawful params
 by_command place params command.Join =
     lawful 0 params (join_is_lawful (word_at params 0) (word_at params 1))
@@ -84,6 +94,9 @@ by_command place params command.Lusers = asks params (lusers_only_asks place)
 by_command place params command.List = asks params (list_only_asks params)
 by_command place params command.Whois = asks params (whois_only_asks place params)
 by_command place params command.Who = asks params (who_only_asks place params)
+by_command place params command.Away = lawful 0 params (away_is_lawful params)
+by_command place params command.Userhost = asks params (userhost_only_asks place params)
+by_command place params command.Whowas = says params (whowas_steps params) (whowas_quiet params)
 
 by_row : (place : Place) (message : Parsed) (which : Option CommandRow)
     → IsLawfulRow message.params (λ me room. decided_by room place me message which)
@@ -102,7 +115,7 @@ by_user : (room : Room) (place : Place) (who : List ℕ) (message : Parsed) (Q :
 by_user room place who message Q so None is = so.silent
 by_user room place who message Q so (Some me) is =
     by_test Q (is_from message.prefix (Some me.nick)) (row_for room place me message) nothing
-    (λ own. (by_row place message (row_named message.command)).cases me room who Q so is)
+    (λ own. (by_row place message (row_named place.about.programs message.command)).cases me room who Q so is)
     (λ foreign. so.silent)
 
 pub decided_so : (room : Room) (place : Place) (who : List ℕ) (message : Parsed)
@@ -128,7 +141,7 @@ user_alike : (room other : Room) (place : Place) (who : List ℕ) (message : Par
 user_alike room other place who message well so None is = refl
 user_alike room other place who message well so (Some me) is =
     ap (λ d. cond (is_from message.prefix (Some me.nick)) d nothing)
-    ((by_row place message (row_named message.command)).alike me room other
+    ((by_row place message (row_named place.about.programs message.command)).alike me room other
     (by_spelling room other who me.nick (well.users_named (key who) me is) so))
 
 pub decided_by_own_invitations : DecidedByOwnInvitations

@@ -134,9 +134,9 @@ pub registering_within : (room : Room) (place : Place) (pending : Pending) (mess
 unfolding register
 registering_within room place pending message P Q so keeps given =
     by_test Q (is_from message.prefix pending.nick) (pending_row_of room place pending
-    message.params (command_of message.command)) (replies pending [])
+    message.params (command_of place.about.programs message.command)) (replies pending [])
     (λ own. by_row room place P Q so message.params keeps pending given
-    (command_of message.command))
+    (command_of place.about.programs message.command))
     (λ foreign. so.silent pending given)
 
 -- where nothing is asked of what was given
@@ -205,4 +205,4 @@ pub registering_by_users : RegisteringByUsers
 unfolding register
 registering_by_users room other place pending message same =
     ap (λ row. if is_from message.prefix pending.nick then row else replies pending [])
-    (row_same room other place same pending message.params (command_of message.command))
+    (row_same room other place same pending message.params (command_of place.about.programs message.command))

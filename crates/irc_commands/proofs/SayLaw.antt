@@ -16,6 +16,7 @@ use Rattle.irc_room.specs.After.{after}
 use Rattle.irc_room.specs.effect.Effect.{Effect}
 use Rattle.irc_room.specs.Limits.{IsWithinLimits}
 use Rattle.irc_room.specs.effect.Target.TheVariants as target
+use Rattle.irc_routes.specs.declared.programs.Programs.{Programs}
 use Rattle.irc_acts.specs.declared.act.Act.{Act}
 use Rattle.irc_acts.specs.declared.act.Act.TheVariants.{Answer, Do, Raw}
 use Rattle.irc_acts.specs.Own.{AreOwn}
@@ -51,10 +52,10 @@ texts_said me room which words = record {
   };
 }
 
-say_own : (me : User) (room : Room) (which : Verb) (params : List (List ℕ))
-    → AreOwn me room (say_steps room me which params)
-say_own me room which params = said_own me room (say_steps room me which params)
-    (said_all room me (IsSaid me room) (λ reply. tt) which params
+say_own : (me : User) (room : Room) (programs : Programs) (which : Verb) (params : List (List ℕ))
+    → AreOwn me room (say_steps room programs me which params)
+say_own me room programs which params = said_own me room (say_steps room programs me which params)
+    (said_all room programs me (IsSaid me room) (λ reply. tt) which params
     (λ targets words more given. texts_said me room which words))
 
 -- ---- a text leaves the room as it is
@@ -98,11 +99,11 @@ texts_sent me room which words within mine carried =
       };
     }
 
-say_carries : (me : User) (room : Room) (which : Verb) (params : List (List ℕ))
-    → CarryGiven me room params (say_steps room me which params)
-say_carries me room which params well within mine carried =
-    all_sent room (say_steps room me which params)
-    (said_all room me (IsSentAct room) (λ reply. tt) which params
+say_carries : (me : User) (room : Room) (programs : Programs) (which : Verb)
+    (params : List (List ℕ)) → CarryGiven me room params (say_steps room programs me which params)
+say_carries me room programs which params well within mine carried =
+    all_sent room (say_steps room programs me which params)
+    (said_all room programs me (IsSentAct room) (λ reply. tt) which params
     (λ targets words more given. let all = subst (AllByRecursion IsCarried) given carried in
     texts_sent me room which words within mine all.1.0))
 
@@ -114,34 +115,36 @@ channel_aside : (me : User) (which : Verb) (words name : List ℕ) (found : Opti
 channel_aside me which words name None = refl
 channel_aside me which words name (Some channel) = refl
 
-abbrev said_to : User → Verb → List ℕ → List ℕ → Table User → Option Channel → List Act
-said_to me which words name users found =
+abbrev said_to : Programs → User → Verb → List ℕ → List ℕ → Table User → Option Channel → List Act
+said_to programs me which words name users found =
     cond (names_channel name) (to_channel me which name words found)
-    (to_user me which name words (row users (key name)))
+    (to_user programs me which name words (row users (key name)))
 
-one_alike : (room other : Room) → AreAlike room other → (me : User) (which : Verb)
-    (words name : List ℕ) → to_one room me which words name ≡ to_one other me which words name
-one_alike room other alike me which words name =
-    row_alike (said_to me which words name)
-    (λ users found. ap (λ acts. cond (names_channel name) acts (to_user me which name words
-    (row users (key name)))) (channel_aside me which words name found))
-    room other alike (key name)
+one_alike : (room other : Room) → AreAlike room other → (programs : Programs) (me : User)
+    (which : Verb) (words name : List ℕ)
+    → to_one room programs me which words name ≡ to_one other programs me which words name
+one_alike room other alike programs me which words name =
+    row_alike (said_to programs me which words name)
+    (λ users found. ap (λ acts. cond (names_channel name) acts
+    (to_user programs me which name words (row users (key name))))
+    (channel_aside me which words name found)) room other alike (key name)
 
-say_alike : (room other : Room) → AreAlike room other → (me : User) (which : Verb)
-    (params : List (List ℕ)) → say_steps room me which params ≡ say_steps other me which params
+say_alike : (room other : Room) → AreAlike room other → (programs : Programs) (me : User)
+    (which : Verb) (params : List (List ℕ))
+    → say_steps room programs me which params ≡ say_steps other programs me which params
 unfolding say_steps
-say_alike room other alike me which [] = refl
-say_alike room other alike me which (targets ∷ []) = refl
-say_alike room other alike me which (targets ∷ [] ∷ more) = refl
-say_alike room other alike me which (targets ∷ (b ∷ bytes) ∷ more) =
+say_alike room other alike programs me which [] = refl
+say_alike room other alike programs me which (targets ∷ []) = refl
+say_alike room other alike programs me which (targets ∷ [] ∷ more) = refl
+say_alike room other alike programs me which (targets ∷ (b ∷ bytes) ∷ more) =
     ap (λ serve. unless_notice which (flat_map serve (take max_targets (entries targets))
     ++ too_many (drop max_targets (entries targets))))
-    (fun_ext (one_alike room other alike me which (b ∷ bytes)))
+    (fun_ext (one_alike room other alike programs me which (b ∷ bytes)))
 
-pub say_is_lawful : (which : Verb) (params : List (List ℕ))
-    → IsLawful params (λ me room. say_steps room me which params)
-say_is_lawful which params = record {
-  own = λ me room. inl (say_own me room which params);
-  carries = λ me room. say_carries me room which params;
-  alike = λ me room other so. say_alike room other so.alike me which params;
+pub say_is_lawful : (programs : Programs) (which : Verb) (params : List (List ℕ))
+    → IsLawful params (λ me room. say_steps room programs me which params)
+say_is_lawful programs which params = record {
+  own = λ me room. inl (say_own me room programs which params);
+  carries = λ me room. say_carries me room programs which params;
+  alike = λ me room other so. say_alike room other so.alike programs me which params;
 }

@@ -1,6 +1,6 @@
 -- What is so of each answer and of each text that is said is so of every step of a message.
 use Rattle.std.proofs.Common.{◌≡◌, ℕ, Bool, Option, Some, None, List, [], ◌∷◌, ◌++◌, filter, take}
-use Rattle.std.proofs.Common.{drop, refl}
+use Rattle.std.proofs.Common.{drop, refl, option_map, option_to_list}
 use Rattle.std.specs.List.{AllByRecursion, flat_map}
 use Rattle.irc_names.specs.Fold.{key}
 use Rattle.irc_names.specs.Tables.{row}
@@ -11,10 +11,12 @@ use Rattle.irc_numerics.specs.declared.replies.Reply.TheVariants.{CannotSendToCh
 use Rattle.irc_room.specs.effect.Target.TheVariants as target
 use Rattle.irc_room.specs.effect.Effect.TheVariants.{Say}
 use Rattle.irc_room.specs.Room.{Room}
+use Rattle.irc_routes.specs.declared.programs.Programs.{Programs}
 use Rattle.irc_commands.specs.declared.TheConstants.{MAX_TARGETS}
 use Rattle.irc_acts.specs.declared.act.Act.{Act}
 use Rattle.irc_acts.specs.declared.act.Act.TheVariants.{Answer, Do}
 use Rattle.irc_acts.specs.Acts.{bytes_kept}
+use Rattle.irc_acts.specs.Away.{away_line, away_shown, away_told}
 use Rattle.irc_acts.specs.ByTest.{by_test}
 use Rattle.irc_acts.specs.CommaLists.{entries}
 use Rattle.irc_acts.specs.Words.{names_channel}
@@ -69,34 +71,46 @@ channel_all room me P which words so name (Some channel) is =
     (Answer (CannotSendToChan channel.name) ∷ [])
     (λ may. (so.to_channels name channel is, tt)) (λ may_not. (so.answers _, tt))
 
-user_all : (room : Room) (me : User) (P : Act → Type 0) (which : Verb) (words : List ℕ)
-    → IsSoWhereSaid room me which words P → (name : List ℕ) (found : Option User)
-    → row room.users (key name) ≡ found → AllByRecursion P (to_user me which name words found)
-user_all room me P which words so name None is = (so.answers _, tt)
-user_all room me P which words so name (Some other) is = (so.to_users name other is, tt)
+away_all : (programs : Programs) (P : Act → Type 0) → ((reply : Reply) → P (Answer reply))
+    → (user : User) → AllByRecursion P (away_told programs user)
+away_all programs P answers user = by (away_shown programs user)
+  where
+    by : (text : Option (List ℕ))
+        → AllByRecursion P (option_to_list (option_map (away_line user) text))
+    by None = tt
+    by (Some text) = (answers _, tt)
 
-one_all : (room : Room) (me : User) (P : Act → Type 0) (which : Verb) (words : List ℕ)
-    → IsSoWhereSaid room me which words P → (name : List ℕ)
-    → AllByRecursion P (to_one room me which words name)
-one_all room me P which words so name =
+user_all : (room : Room) (programs : Programs) (me : User) (P : Act → Type 0) (which : Verb)
+    (words : List ℕ) → IsSoWhereSaid room me which words P → (name : List ℕ) (found : Option User)
+    → row room.users (key name) ≡ found
+    → AllByRecursion P (to_user programs me which name words found)
+user_all room programs me P which words so name None is = (so.answers _, tt)
+user_all room programs me P which words so name (Some other) is =
+    (so.to_users name other is, away_all programs P so.answers other)
+
+one_all : (room : Room) (programs : Programs) (me : User) (P : Act → Type 0) (which : Verb)
+    (words : List ℕ) → IsSoWhereSaid room me which words P → (name : List ℕ)
+    → AllByRecursion P (to_one room programs me which words name)
+one_all room programs me P which words so name =
     by_test (AllByRecursion P) (names_channel name)
     (to_channel me which name words (row room.channels (key name)))
-    (to_user me which name words (row room.users (key name)))
+    (to_user programs me which name words (row room.users (key name)))
     (λ is. channel_all room me P which words so name (row room.channels (key name)) refl)
-    (λ is_not. user_all room me P which words so name (row room.users (key name)) refl)
+    (λ is_not. user_all room programs me P which words so name (row room.users (key name)) refl)
 
 too_many_all : (P : Act → Type 0) → ((reply : Reply) → P (Answer reply)) → (names : List (List ℕ))
     → AllByRecursion P (too_many names)
 too_many_all P answers [] = tt
 too_many_all P answers (name ∷ names) = (answers _, tt)
 
-say_to_all : (room : Room) (me : User) (P : Act → Type 0) (which : Verb) (targets words : List ℕ)
-    → IsSoWhereSaid room me which words P → AllByRecursion P (say_to room me which targets words)
-say_to_all room me P which targets words so =
-    all_appended P (flat_map (to_one room me which words) (take MAX_TARGETS (entries targets)))
+say_to_all : (room : Room) (programs : Programs) (me : User) (P : Act → Type 0) (which : Verb)
+    (targets words : List ℕ) → IsSoWhereSaid room me which words P
+    → AllByRecursion P (say_to room programs me which targets words)
+say_to_all room programs me P which targets words so =
+    all_appended P (flat_map (to_one room programs me which words) (take MAX_TARGETS (entries targets)))
     (too_many (drop MAX_TARGETS (entries targets)))
-    (all_flat P (to_one room me which words) (take MAX_TARGETS (entries targets))
-    (one_all room me P which words so))
+    (all_flat P (to_one room programs me which words) (take MAX_TARGETS (entries targets))
+    (one_all room programs me P which words so))
     (too_many_all P so.answers (drop MAX_TARGETS (entries targets)))
 
 one_answer : (P : Act → Type 0) → ((reply : Reply) → P (Answer reply))
@@ -104,14 +118,14 @@ one_answer : (P : Act → Type 0) → ((reply : Reply) → P (Answer reply))
 one_answer P answers which reply = unless_all P which (Answer reply ∷ []) (answers reply, tt)
 
 -- the words are the second parameter
-pub said_all : (room : Room) (me : User) (P : Act → Type 0) → ((reply : Reply) → P (Answer reply))
-    → (which : Verb) (params : List (List ℕ)) → ((targets words : List ℕ) (more : List (List ℕ))
+pub said_all : (room : Room) (programs : Programs) (me : User) (P : Act → Type 0)
+    → ((reply : Reply) → P (Answer reply)) → (which : Verb) (params : List (List ℕ)) → ((targets words : List ℕ) (more : List (List ℕ))
     → params ≡ targets ∷ words ∷ more → IsSoWhereSaid room me which words P)
-    → AllByRecursion P (say_steps room me which params)
+    → AllByRecursion P (say_steps room programs me which params)
 unfolding say_steps
-said_all room me P answers which [] so = one_answer P answers which _
-said_all room me P answers which (targets ∷ []) so = one_answer P answers which _
-said_all room me P answers which (targets ∷ [] ∷ more) so = one_answer P answers which _
-said_all room me P answers which (targets ∷ (b ∷ bytes) ∷ more) so =
-    unless_all P which (say_to room me which targets (b ∷ bytes))
-    (say_to_all room me P which targets (b ∷ bytes) (so targets (b ∷ bytes) more refl))
+said_all room programs me P answers which [] so = one_answer P answers which _
+said_all room programs me P answers which (targets ∷ []) so = one_answer P answers which _
+said_all room programs me P answers which (targets ∷ [] ∷ more) so = one_answer P answers which _
+said_all room programs me P answers which (targets ∷ (b ∷ bytes) ∷ more) so =
+    unless_all P which (say_to room programs me which targets (b ∷ bytes))
+    (say_to_all room programs me P which targets (b ∷ bytes) (so targets (b ∷ bytes) more refl))

@@ -28,13 +28,15 @@ use Rattle.irc_commands.specs.Register.{Registered}
 use Rattle.irc_acts.specs.CommaLists.{entries}
 use Rattle.irc_acts.specs.Standing.{is_banned}
 use Rattle.irc_commands.specs.declared.say.Verb.TheVariants as verb
+use Rattle.irc_routes.specs.declared.programs.Programs.TheVariants as programs
 use Rattle.irc_commands.specs.Say.{say_steps, is_raised, say_text, to_channel, to_user}
 use Rattle.irc_commands.specs.Say.{unless_notice}
 use Rattle.irc_commands.specs.Lines.{al, al_alone, a_net, line, newcomer, UnknownTarget}
 use Rattle.irc_commands.specs.Lines.{FifthTarget, SilentNotice, QuitWithText, UnknownWord}
 use Rattle.irc_commands.specs.Lines.{ForeignPrefix, EarlyJoin, TakenByFold, TakenMeanwhile, bo}
 use Rattle.irc_commands.specs.Lines.{als_channel, with_channel, to_channel_line, MemberIsHeard}
-use Rattle.irc_commands.specs.Lines.{OutsiderIsKeptOut}
+use Rattle.irc_commands.specs.Lines.{OutsiderIsKeptOut, al_away, al_away_alone, a_net_serves}
+use Rattle.irc_commands.specs.Lines.{AwayIsTold, NoticeIsNotTold, AwayIsUnknown, AwayIsHidden}
 
 al_there : row al_alone.users (key (codes "al")) ≡ Some al
 al_there = row-alter_same (key (codes "al")) (λ _. Some al) empty
@@ -67,10 +69,10 @@ pub unknown_target : UnknownTarget
 unfolding decide command_row say_steps entries
 unknown_target =
     ap (decide_for al_alone a_net (line (codes "PRIVMSG") (codes "bo" ∷ codes "hi" ∷ []))) al_there
-    ∙ ap (λ o. does ((to_user al verb.Privmsg (codes "bo") (codes "hi") o ++ []) ++ [])) bo_missing
+    ∙ ap (λ o. does ((to_user programs.Off al verb.Privmsg (codes "bo") (codes "hi") o ++ []) ++ [])) bo_missing
 
 abbrev said : Option User → List Act
-said o = to_user al verb.Privmsg (codes "al") (codes "x") o
+said o = to_user programs.Off al verb.Privmsg (codes "al") (codes "x") o
 
 pub fifth_target : FifthTarget
 unfolding decide command_row say_steps entries
@@ -85,7 +87,7 @@ unfolding decide command_row say_steps entries
 silent_notice =
     ap (decide_for al_alone a_net (line (codes "NOTICE") (codes "bo" ∷ codes "hi" ∷ []))) al_there
     ∙ ap (λ o. does (unless_notice verb.Notice
-    ((to_user al verb.Notice (codes "bo") (codes "hi") o ++ []) ++ []))) bo_missing
+    ((to_user programs.Off al verb.Notice (codes "bo") (codes "hi") o ++ []) ++ []))) bo_missing
 
 pub quit_with_text : QuitWithText
 unfolding decide command_row cut_words line_text cut
@@ -163,3 +165,35 @@ outsider_is_kept_out =
     ap (decide_for with_channel a_net to_channel_line) bo_with_channel
     ∙ ap (in_channel bo) channel_there
     ∙ ap (with_flags bo) bo_outside
+
+al_away_there : row al_away_alone.users (key (codes "al")) ≡ Some al_away
+al_away_there = row-alter_same (key (codes "al")) (λ _. Some al_away) empty
+
+pub away_is_told : AwayIsTold
+unfolding decide command_row say_steps entries
+away_is_told =
+    ap (decide_for al_away_alone a_net_serves
+    (line (codes "PRIVMSG") (codes "al" ∷ codes "x" ∷ []))) al_away_there
+    ∙ ap (λ o. does ((to_user programs.On al_away verb.Privmsg (codes "al") (codes "x") o ++ []) ++ []))
+    al_away_there
+
+pub notice_is_not_told : NoticeIsNotTold
+unfolding decide command_row say_steps entries
+notice_is_not_told =
+    ap (decide_for al_away_alone a_net_serves
+    (line (codes "NOTICE") (codes "al" ∷ codes "x" ∷ []))) al_away_there
+    ∙ ap (λ o. does (unless_notice verb.Notice
+    ((to_user programs.On al_away verb.Notice (codes "al") (codes "x") o ++ []) ++ []))) al_away_there
+
+pub away_is_unknown : AwayIsUnknown
+unfolding decide command_row
+away_is_unknown =
+    ap (decide_for al_alone a_net (line (codes "AWAY") (codes "at lunch" ∷ []))) al_there
+
+pub away_is_hidden : AwayIsHidden
+unfolding decide command_row say_steps entries
+away_is_hidden =
+    ap (decide_for al_away_alone a_net (line (codes "PRIVMSG") (codes "al" ∷ codes "x" ∷ [])))
+    al_away_there
+    ∙ ap (λ o. does ((to_user programs.Off al_away verb.Privmsg (codes "al") (codes "x") o ++ []) ++ []))
+    al_away_there

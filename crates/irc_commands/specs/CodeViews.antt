@@ -7,6 +7,7 @@ use Rattle.irc_users.specs.declared.user.User.{User}
 use Rattle.irc_room.specs.Room.{Room}
 use Rattle.irc_routes.specs.Known.{place_of}
 use Rattle.irc_routes.specs.Place.{Place}
+use Rattle.irc_routes.specs.declared.programs.Programs.{Programs}
 use Rattle.irc_acts.specs.declared.act.Act.{Act}
 use Rattle.irc_acts.specs.declared.context.Context.{Context}
 use Rattle.irc_queries.specs.declared.query.Query.{Query}
@@ -16,7 +17,7 @@ use Rattle.irc_commands.specs.declared.say.Verb.{Verb}
 use Rattle.irc_commands.specs.Decide.{decide}
 use Rattle.irc_commands.specs.Decisions.{Decided, does}
 use Rattle.irc_commands.specs.Nick.{nick_steps}
-use Rattle.irc_commands.specs.Say.{say_steps, say_to}
+use Rattle.irc_commands.specs.Say.{say_steps, say_to, to_one, to_user}
 use Rattle.irc_commands.specs.declared.command_names.Command.{Command}
 use Rattle.irc_commands.specs.Table.{row_for, command_row}
 use Rattle.irc_commands.specs.Topic.{topic_steps}
@@ -28,13 +29,29 @@ nick_here context params = nick_steps context.room.now.room context.me.now param
 abbrev pub topic_here : Context → List ℕ → List (List ℕ) → List Act
 topic_here context name more = topic_steps context.room.now.room context.me.now name more
 
+-- whether the server has what programs expect
+abbrev pub programs_here : Context → Programs
+programs_here context = (place_of context.routes.now).about.programs
+
 abbrev pub say_here : Context → Verb → List (List ℕ) → List Act
-say_here context verb params = say_steps context.room.now.room context.me.now verb params
+say_here context verb params =
+    say_steps context.room.now.room (programs_here context) context.me.now verb params
 
 -- what is said to these targets
 abbrev pub said_here : Context → Verb → List ℕ → List ℕ → List Act
 said_here context verb targets words =
-    say_to context.room.now.room context.me.now verb targets words
+    say_to context.room.now.room (programs_here context) context.me.now verb targets words
+
+-- what is said to one of them
+abbrev pub one_said_here : Context → Verb → List ℕ → List ℕ → List Act
+one_said_here context verb words name =
+    to_one context.room.now.room (programs_here context) context.me.now verb words name
+
+-- where it is the nickname of a user, or of nobody
+abbrev pub user_said_here : Context → Verb → List ℕ → List ℕ → List Act
+user_said_here context verb words name =
+    to_user (programs_here context) context.me.now verb name words
+    (row context.room.now.room.users (key name))
 
 -- the steps that answer what a user asks, if it asks something and is there
 unfoldable pub asked_steps : Room → Place → Option User → List (List ℕ) → Option Query → List Act

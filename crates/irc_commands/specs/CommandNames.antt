@@ -10,6 +10,8 @@ use Rattle.irc_commands.specs.declared.command_names.Command.TheVariants as comm
 use Rattle.irc_users.specs.declared.user.User.{User}
 use Rattle.std.specs.Borrow.{Bor}
 use Rattle.irc_names.specs.Tables.{row}
+use Rattle.irc_routes.specs.declared.programs.Programs.{Programs}
+use Rattle.irc_routes.specs.declared.programs.Programs.TheVariants as programs
 
 -- whether two words are one but for the case of letters
 abbrev pub same_letters : List ℕ → List ℕ → Bool
@@ -50,15 +52,28 @@ rows =
     (codes "LIST") command.List 0
     ∷ named (codes "WHOIS") command.Whois 0 ∷ named (codes "WHO") command.Who 0 ∷ []
 
+-- Those that programs expect beside the profile (sections 4.1, 4.8 and 3.6.3). AWAY without a
+-- parameter takes its text away, and WHOWAS is answered otherwise.
+abbrev pub program_rows : List CommandRow
+program_rows =
+    named (codes "AWAY") command.Away 0 ∷ named (codes "USERHOST") command.Userhost 1
+    ∷ named (codes "WHOWAS") command.Whowas 0 ∷ []
+
 -- the first of these rows with this name
 abbrev pub found : List ℕ → List CommandRow → Option CommandRow
 found word [] = None
 found word (row ∷ rows) = if same_letters word row.name then Some row else found word rows
 
--- the row of a line's first word, if it is a command that is built
-abbrev pub row_named : List ℕ → Option CommandRow
-row_named word = found word rows
+-- what was found, or what is found among those that programs expect where a server has these
+abbrev pub or_expected : Option CommandRow → Programs → List ℕ → Option CommandRow
+or_expected (Some row) programs word = Some row
+or_expected None programs.Off word = None
+or_expected None programs.On word = found word program_rows
+
+-- the row of a line's first word, if it is a command of the server
+abbrev pub row_named : Programs → List ℕ → Option CommandRow
+row_named programs word = or_expected (found word rows) programs word
 
 -- which command a word is, if it is one
-abbrev pub command_of : List ℕ → Option Command
-command_of word = option_map (λ row. row.command) (row_named word)
+abbrev pub command_of : Programs → List ℕ → Option Command
+command_of programs word = option_map (λ row. row.command) (row_named programs word)

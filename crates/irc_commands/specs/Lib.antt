@@ -1,5 +1,6 @@
 pub mod Lines
 pub mod Ping
+pub mod Whowas
 pub mod Register
 pub mod CommandNames
 pub mod OwnLines

@@ -11,10 +11,12 @@ use Rattle.irc_modes.specs.Modes.{no_modes}
 use Rattle.irc_numerics.specs.declared.replies.Reply.TheVariants.{NoSuchNick, CannotSendToChan}
 use Rattle.irc_numerics.specs.declared.replies.Reply.TheVariants.{TooManyTargets, UnknownCommand}
 use Rattle.irc_numerics.specs.declared.replies.Reply.TheVariants.{NotRegistered, NicknameInUse}
+use Rattle.irc_numerics.specs.declared.replies.Reply.TheVariants.{Away}
 use Rattle.irc_room.specs.effect.Target.TheVariants as target
 use Rattle.irc_room.specs.effect.Effect.TheVariants.{Quit, Say}
 use Rattle.irc_room.specs.Room.{Room}
-use Rattle.irc_routes.specs.About.{says}
+use Rattle.irc_routes.specs.About.{says, serves}
+use Rattle.irc_routes.specs.declared.programs.Programs.TheVariants as programs
 use Rattle.irc_routes.specs.Place.{Place, alone}
 use Rattle.irc_acts.specs.declared.act.Act.{Act}
 use Rattle.irc_acts.specs.declared.act.Act.TheVariants.{Answer, Raw, Do}
@@ -136,3 +138,36 @@ TakenMeanwhile = register al_alone a_net (newcomer (Some (codes "al")))
     (line (codes "USER") (codes "u" ∷ codes "0" ∷ codes "*" ∷ codes "Xy" ∷ []))
     ≡ replies (record { nick = None; user = Some (codes "u"); real = codes "Xy"; host = codes "h" })
     (Answer (NicknameInUse (codes "al")) ∷ [])
+
+-- a.net with what programs expect, and al alone on it, who is away
+abbrev pub a_net_serves : Place
+a_net_serves = alone (codes "a.net")
+    (serves programs.On (says (codes "Test server") (codes "2024-01-01")))
+
+abbrev pub al_away : User
+al_away = record al { set = record { away = Some (codes "at lunch") } }
+
+abbrev pub al_away_alone : Room
+al_away_alone =
+    record { users = alter (key (codes "al")) (λ _. Some al_away) empty; channels = empty }
+
+-- that a user is away is told behind the text to it
+abbrev pub AwayIsTold : Type 0
+AwayIsTold = decide al_away_alone a_net_serves (codes "al")
+    (line (codes "PRIVMSG") (codes "al" ∷ codes "x" ∷ []))
+    ≡ does (to_itself ∷ Answer (Away (codes "al") (codes "at lunch")) ∷ [])
+
+-- a NOTICE is not answered so
+abbrev pub NoticeIsNotTold : Type 0
+NoticeIsNotTold = decide al_away_alone a_net_serves (codes "al")
+    (line (codes "NOTICE") (codes "al" ∷ codes "x" ∷ []))
+    ≡ does (Do (Say (codes "al") true (target.User (codes "al")) (bytes_kept (codes "x"))) ∷ [])
+
+-- a server that has not what programs expect has no AWAY, and tells nobody who is away
+abbrev pub AwayIsUnknown : Type 0
+AwayIsUnknown = decide al_alone a_net (codes "al") (line (codes "AWAY") (codes "at lunch" ∷ []))
+    ≡ does (Answer (UnknownCommand (client_words (codes "AWAY"))) ∷ [])
+
+abbrev pub AwayIsHidden : Type 0
+AwayIsHidden = decide al_away_alone a_net (codes "al")
+    (line (codes "PRIVMSG") (codes "al" ∷ codes "x" ∷ [])) ≡ does (to_itself ∷ [])

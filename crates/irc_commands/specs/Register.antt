@@ -122,7 +122,8 @@ pending_row_of room place pending params other = replies pending (Answer NotRegi
 -- the row that a line fits
 abbrev pub pending_row : Room → Place → Pending → Parsed → Registered
 pending_row room place pending message =
-    pending_row_of room place pending message.params (command_of message.command)
+    pending_row_of room place pending message.params
+    (command_of place.about.programs message.command)
 
 -- what comes of a line before registration; one that names another sender is ignored
 unfoldable pub register : Room → Place → Pending → Parsed → Registered

@@ -17,12 +17,14 @@ use Rattle.irc_room.specs.effect.Target.{Target}
 use Rattle.irc_room.specs.effect.Target.TheVariants as target
 use Rattle.irc_room.specs.effect.Effect.TheVariants.{Say}
 use Rattle.irc_room.specs.Room.{Room}
+use Rattle.irc_routes.specs.declared.programs.Programs.{Programs}
 use Rattle.irc_commands.specs.Limits.{max_targets}
 use Rattle.irc_commands.specs.declared.say.Verb.{Verb}
 use Rattle.irc_commands.specs.declared.say.Verb.TheVariants as verb
 use Rattle.irc_acts.specs.declared.act.Act.{Act}
 use Rattle.irc_acts.specs.declared.act.Act.TheVariants.{Answer, Do}
 use Rattle.irc_acts.specs.Acts.{bytes_kept, client_words}
+use Rattle.irc_acts.specs.Away.{away_told}
 use Rattle.irc_acts.specs.CommaLists.{entries}
 use Rattle.irc_acts.specs.Standing.{is_banned}
 use Rattle.irc_acts.specs.Words.{names_channel}
@@ -63,7 +65,7 @@ said_text me which to words =
     }) in
     take (max_line - length empty) words
 
--- a text that goes through has its effect alone: who speaks is told nothing
+-- a text that goes through has its effect alone: of it who speaks is told nothing
 abbrev pub say_text : User → Verb → Target → List ℕ → List ℕ → List Act
 say_text me which to name words =
     Do (Say me.nick (is_notice which) to (bytes_kept (said_text me which name words))) ∷ []
@@ -75,15 +77,17 @@ to_channel me which word words (Some channel) =
     if may_speak me channel then say_text me which (target.Channel channel.name) channel.name words
     else Answer (CannotSendToChan channel.name) ∷ []
 
-abbrev pub to_user : User → Verb → List ℕ → List ℕ → Option User → List Act
-to_user me which word words None = Answer (NoSuchNick (client_words word)) ∷ []
-to_user me which word words (Some user) = say_text me which (target.User user.nick) user.nick words
+-- behind a text to a user who is away stands that it is, where that is shown
+abbrev pub to_user : Programs → User → Verb → List ℕ → List ℕ → Option User → List Act
+to_user programs me which word words None = Answer (NoSuchNick (client_words word)) ∷ []
+to_user programs me which word words (Some user) =
+    say_text me which (target.User user.nick) user.nick words ++ away_told programs user
 
 -- one target: a channel where the word is written as the name of one, and a user otherwise
-abbrev pub to_one : Room → User → Verb → List ℕ → List ℕ → List Act
-to_one room me which words name =
+abbrev pub to_one : Room → Programs → User → Verb → List ℕ → List ℕ → List Act
+to_one room programs me which words name =
     if names_channel name then to_channel me which name words (row room.channels (key name))
-    else to_user me which name words (row room.users (key name))
+    else to_user programs me which name words (row room.users (key name))
 
 -- the target behind the last that is served, if there is one
 abbrev pub too_many : List (List ℕ) → List Act
@@ -101,16 +105,16 @@ unless_notice verb.Privmsg steps = steps
 unless_notice verb.Notice steps = filter (λ step. not (is_answer step)) steps
 
 -- the targets in turn, as many as are served; the first that is not is answered
-abbrev pub say_to : Room → User → Verb → List ℕ → List ℕ → List Act
-say_to room me which targets words =
-    flat_map (to_one room me which words) (take max_targets (entries targets))
+abbrev pub say_to : Room → Programs → User → Verb → List ℕ → List ℕ → List Act
+say_to room programs me which targets words =
+    flat_map (to_one room programs me which words) (take max_targets (entries targets))
     ++ too_many (drop max_targets (entries targets))
 
 -- what a PRIVMSG or a NOTICE does (RFC 2812 section 3.3)
-unfoldable pub say_steps : Room → User → Verb → List (List ℕ) → List Act
-say_steps room me which [] =
+unfoldable pub say_steps : Room → Programs → User → Verb → List (List ℕ) → List Act
+say_steps room programs me which [] =
     unless_notice which (Answer (NoRecipient (client_words (say_command which))) ∷ [])
-say_steps room me which (targets ∷ []) = unless_notice which (Answer NoTextToSend ∷ [])
-say_steps room me which (targets ∷ [] ∷ more) = unless_notice which (Answer NoTextToSend ∷ [])
-say_steps room me which (targets ∷ (b ∷ bytes) ∷ more) =
-    unless_notice which (say_to room me which targets (b ∷ bytes))
+say_steps room programs me which (targets ∷ []) = unless_notice which (Answer NoTextToSend ∷ [])
+say_steps room programs me which (targets ∷ [] ∷ more) = unless_notice which (Answer NoTextToSend ∷ [])
+say_steps room programs me which (targets ∷ (b ∷ bytes) ∷ more) =
+    unless_notice which (say_to room programs me which targets (b ∷ bytes))

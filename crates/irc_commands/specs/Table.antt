@@ -17,12 +17,14 @@ use Rattle.irc_acts.specs.Words.{word_at}
 use Rattle.irc_commands.specs.Decisions.{Decided, nothing, does}
 use Rattle.irc_commands.specs.Ping.{ping_steps}
 use Rattle.irc_commands.specs.Quit.{quit_decided}
+use Rattle.irc_channel_commands.specs.Away.{away_steps}
 use Rattle.irc_channel_commands.specs.Invite.{invite_steps}
 use Rattle.irc_channel_commands.specs.Mode.{mode_steps}
 use Rattle.irc_channel_commands.specs.Join.{join_steps}
 use Rattle.irc_channel_commands.specs.Kick.{kick_steps}
 use Rattle.irc_acts.specs.Names.{names_steps}
 use Rattle.irc_queries.specs.Ison.{ison_steps}
+use Rattle.irc_queries.specs.Userhost.{userhost_steps}
 use Rattle.irc_queries.specs.Lusers.{lusers_steps}
 use Rattle.irc_queries.specs.List.{list_steps}
 use Rattle.irc_queries.specs.Whois.{whois_steps}
@@ -31,6 +33,7 @@ use Rattle.irc_commands.specs.Nick.{nick_steps}
 use Rattle.irc_channel_commands.specs.Part.{part_steps}
 use Rattle.irc_commands.specs.Say.{say_steps}
 use Rattle.irc_commands.specs.Topic.{topic_steps}
+use Rattle.irc_commands.specs.Whowas.{whowas_steps}
 use Rattle.irc_commands.specs.CommandNames.{CommandRow, row_named}
 
 -- what a word that names no command is answered
@@ -49,8 +52,10 @@ command_row room place me params command.Pong = nothing
 command_row room place me params command.Motd = does (Answer NoMotd ∷ [])
 command_row room place me params command.Ping = does (ping_steps place params)
 command_row room place me params command.Quit = quit_decided me params
-command_row room place me params command.Privmsg = does (say_steps room me verb.Privmsg params)
-command_row room place me params command.Notice = does (say_steps room me verb.Notice params)
+command_row room place me params command.Privmsg =
+    does (say_steps room place.about.programs me verb.Privmsg params)
+command_row room place me params command.Notice =
+    does (say_steps room place.about.programs me verb.Notice params)
 command_row room place me params command.Nick = does (nick_steps room me params)
 command_row room place me params command.Join =
     does (join_steps room me (word_at params 0) (word_at params 1))
@@ -70,6 +75,9 @@ command_row room place me params command.Lusers = does (lusers_steps room place)
 command_row room place me params command.List = does (list_steps room me params)
 command_row room place me params command.Whois = does (whois_steps room place me params)
 command_row room place me params command.Who = does (who_steps room place me params)
+command_row room place me params command.Away = does (away_steps me params)
+command_row room place me params command.Userhost = does (userhost_steps room place params)
+command_row room place me params command.Whowas = does (whowas_steps params)
 
 -- Too few parameters are answered here, whatever the command (RFC 2812 section 5.2, reply 461).
 abbrev pub decided_by : Room → Place → User → Parsed → Option CommandRow → Decided
@@ -80,4 +88,5 @@ decided_by room place me message (Some row) =
 
 -- what a line does, by the row that its command has
 abbrev pub row_for : Room → Place → User → Parsed → Decided
-row_for room place me message = decided_by room place me message (row_named message.command)
+row_for room place me message =
+    decided_by room place me message (row_named place.about.programs message.command)

@@ -1,7 +1,10 @@
 //! The commands that are built, by their names, and how many parameters each wants.
-ghost use Rattle.std.specs.Prelude.{◌≡◌};
+ghost use Rattle.std.specs.Prelude.{◌≡◌, map};
 ghost use Rattle.std.specs.Option.{option_map};
-ghost use Rattle.irc_commands.specs.CommandNames.{command_of, row_named, row_view, same_letters};
+ghost use Rattle.irc_commands.specs.CommandNames.{command_of, found, row_named, row_view};
+ghost use Rattle.irc_commands.specs.CommandNames.{same_letters};
+
+use irc_routes::Programs;
 
 /// A command that is built (RFC 2812 section 3).
 #[derive(Clone, Copy)]
@@ -48,6 +51,12 @@ pub enum Command {
     Whois,
     /// WHO
     Who,
+    /// AWAY
+    Away,
+    /// USERHOST
+    Userhost,
+    /// WHOWAS
+    Whowas,
 }
 
 /// A row of the command table: a command by its name, and how many parameters it wants at least.
@@ -79,27 +88,45 @@ const ROWS: [CommandRow; 21] = [
     (b"WHO", Command::Who, 0),
 ];
 
+/// Those that programs expect beside the profile (RFC 2812 sections 4.1, 4.8 and 3.6.3).
+const PROGRAM_ROWS: [CommandRow; 3] = [
+    (b"AWAY", Command::Away, 0),
+    (b"USERHOST", Command::Userhost, 1),
+    (b"WHOWAS", Command::Whowas, 0),
+];
+
 impl Command {
-    /// The command that a word is, in any case of letters; none where it is not in the table.
-    pub fn read(word: &[u8]) -> Option<Self>
-        ensures { result ≡ command_of word.now }
+    /// The command that a word is, in any case of letters; none where it is not in the table of
+    /// the server.
+    pub fn read(programs: Programs, word: &[u8]) -> Option<Self>
+        ensures { result ≡ command_of programs word.now }
     {
-        let (_, command, _) = Self::find(word)?;
+        let (_, command, _) = Self::find(programs, word)?;
         Some(command)
     }
 
     /// The row of the command that a word is, in any case of letters; none where it is not in the
-    /// table.
-    pub fn find(word: &[u8]) -> Option<CommandRow>
-        ensures { option_map row_view result ≡ row_named word.now }
+    /// table of the server.
+    pub fn find(programs: Programs, word: &[u8]) -> Option<CommandRow>
+        ensures { option_map row_view result ≡ row_named programs word.now }
     {
-        for (name, command, least) in ROWS {
-            if is_word(word, name) {
-                return Some((name, command, least));
-            }
+        match (find_in(&ROWS, word), programs) {
+            (None, Programs::On) => find_in(&PROGRAM_ROWS, word),
+            (row, _) => row,
         }
-        None
     }
+}
+
+/// The first of some rows of which a word is the name.
+fn find_in(rows: &[CommandRow], word: &[u8]) -> Option<CommandRow>
+    ensures { option_map row_view result ≡ found word.now (map row_view rows.now) }
+{
+    for (name, command, least) in rows {
+        if is_word(word, name) {
+            return Some((*name, *command, *least));
+        }
+    }
+    None
 }
 
 /// Whether two words are one but for the case of letters.

@@ -20,6 +20,7 @@ mod registering;
 mod say;
 mod table;
 mod topic;
+mod whowas;
 
 pub use command_names::{Command, CommandRow};
 pub use deciding::decide;

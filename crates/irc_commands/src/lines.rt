@@ -1,9 +1,13 @@
 //! Lines of a client by example.
 ghost use Rattle.irc_commands.specs.Lines.{
+  AwayIsHidden,
+  AwayIsTold,
+  AwayIsUnknown,
   EarlyJoin,
   FifthTarget,
   ForeignPrefix,
   MemberIsHeard,
+  NoticeIsNotTold,
   OutsiderIsKeptOut,
   QuitWithText,
   SilentNotice,
@@ -77,4 +81,28 @@ pub fn member_is_heard()
 #[tactic(auto, using(crate::proofs::SmallRooms::outsider_is_kept_out))]
 pub fn outsider_is_kept_out()
     ensures { OutsiderIsKeptOut }
+{}
+
+/// That a user is away is told behind the text to it, where a server has what programs expect.
+#[tactic(auto, using(crate::proofs::SmallRooms::away_is_told))]
+pub fn away_is_told()
+    ensures { AwayIsTold }
+{}
+
+/// A NOTICE is not answered so.
+#[tactic(auto, using(crate::proofs::SmallRooms::notice_is_not_told))]
+pub fn notice_is_not_told()
+    ensures { NoticeIsNotTold }
+{}
+
+/// A server that has not what programs expect knows no AWAY.
+#[tactic(auto, using(crate::proofs::SmallRooms::away_is_unknown))]
+pub fn away_is_unknown()
+    ensures { AwayIsUnknown }
+{}
+
+/// It tells nobody who is away.
+#[tactic(auto, using(crate::proofs::SmallRooms::away_is_hidden))]
+pub fn away_is_hidden()
+    ensures { AwayIsHidden }
 {}

@@ -269,7 +269,7 @@ fn register_for(
         ≡ pending_row room.now.room (place_of routes.now) now (parsed message.now)) }
 {
     let params = message.params.as_slice();
-    match Command::read(message.command) {
+    match Command::read(routes.programs(), message.command) {
         Some(Command::Pass | Command::Pong) => Ok(ignored(alloc, now)),
         Some(Command::Nick) => take_nick(alloc, room, routes, now, params),
         Some(Command::User) => take_user(alloc, room, routes, now, params),

@@ -4,22 +4,23 @@ ghost use Rattle.std.specs.Option.{option_copied};
 ghost use Rattle.irc_line.specs.PartViews.{words_now};
 ghost use Rattle.irc_numerics.specs.declared.replies.Reply.TheVariants.{NoSuchNick};
 ghost use Rattle.irc_acts.specs.Acts.{client_words};
+ghost use Rattle.irc_room.specs.effect.Target.TheVariants as target;
 ghost use Rattle.irc_acts.specs.declared.act.Act.TheVariants.{Answer};
-ghost use Rattle.irc_commands.specs.CodeViews.{said_here, say_here};
+ghost use Rattle.irc_commands.specs.CodeViews.{one_said_here, said_here, say_here, user_said_here};
 ghost use Rattle.irc_commands.specs.Say.{
   is_notice,
   is_raised,
   may_speak,
   said_text,
   say_command,
+  say_text,
   to_channel,
-  to_one,
-  to_user,
   unless_notice,
 };
 ghost use Rattle.irc_commands.specs.RegisteringViews.{AreDecided};
 
 use crate::MAX_TARGETS;
+use irc_acts::away::away_told;
 use irc_acts::comma_lists::next_entry;
 use irc_acts::standing::is_banned;
 use irc_acts::words::{client_words, names_channel};
@@ -80,15 +81,44 @@ fn said_text(me: &User, verb: Verb, to: &[u8], words: &[u8]) -> Line
 /// and `:`.
 const SEPARATORS: usize = 7;
 
-/// What a message to one target does.
-fn to_target(context: &Context<'_>, verb: Verb, words: &[u8], name: &[u8]) -> Act
-    ensures { to_one context.now.room.now.room context.now.me.now verb words.now name.now
-        ≡ result ∷ [] }
+/// Appends what a message to one target does, but no reply to a NOTICE.
+fn put_said(
+    steps: &mut Vec<Act, Global>,
+    context: &Context<'_>,
+    verb: Verb,
+    words: &[u8],
+    name: &[u8],
+) -> Result<(), AllocError>
+    ensures { OnOk result (steps.new.items ≡ steps.old.items
+        ++ unless_notice verb (one_said_here context.now verb words.now name.now)) }
 {
     if names_channel(name) {
-        to_channel(context.room.channel(name), context.me, verb, words, name)
+        let said = to_channel(context.room.channel(name), context.me, verb, words, name);
+        put_unless_notice(steps, verb, said)
     } else {
-        to_user(context.room.user(name), context.me, verb, words, name)
+        put_to_user(steps, context, verb, words, name)
+    }
+}
+
+/// Appends what a message to the user of a nickname does, if it is there, but no reply to a NOTICE.
+/// Behind the text stands that the user is away, where that is shown.
+fn put_to_user(
+    steps: &mut Vec<Act, Global>,
+    context: &Context<'_>,
+    verb: Verb,
+    words: &[u8],
+    name: &[u8],
+) -> Result<(), AllocError>
+    ensures { OnOk result (steps.new.items ≡ steps.old.items
+        ++ unless_notice verb (user_said_here context.now verb words.now name.now)) }
+{
+    let Some(user) = context.room.user(name) else {
+        return put_unless_notice(steps, verb, missing(name));
+    };
+    put_unless_notice(steps, verb, to_user(context.me, verb, words, user))?;
+    match away_told(context.routes.programs(), user) {
+        Some(told) => put_unless_notice(steps, verb, told),
+        None => Ok(()),
     }
 }
 
@@ -112,13 +142,10 @@ fn to_channel(found: Option<&Channel>, me: &User, verb: Verb, words: &[u8], name
     })
 }
 
-/// What a message does to the user that was found under a name, if one was.
-fn to_user(found: Option<&User>, me: &User, verb: Verb, words: &[u8], name: &[u8]) -> Act
-    ensures { to_user me.now verb name.now words.now (option_copied found.entry) ≡ result ∷ [] }
+/// What is said to a user.
+fn to_user(me: &User, verb: Verb, words: &[u8], user: &User) -> Act
+    ensures { say_text me.now verb (target.User user.now.nick) user.now.nick words.now ≡ result ∷ [] }
 {
-    let Some(user) = found else {
-        return missing(name);
-    };
     Act::Do(Effect::Say {
         by: me.nick.copy(),
         notice: verb.is_notice(),
@@ -189,8 +216,7 @@ fn say_to(
             put_unless_notice(&mut steps, verb, refusal)?;
             return Ok(steps);
         }
-        let act = to_target(context, verb, words, target);
-        put_unless_notice(&mut steps, verb, act)?;
+        put_said(&mut steps, context, verb, words, target)?;
         served += 1;
         rest = behind;
     }

@@ -12,14 +12,14 @@ ghost use Rattle.irc_commands.specs.RegisteringViews.{AreDecided};
 
 use crate::decision::Decision;
 use crate::say::Verb;
-use crate::{Command, nick, ping, quit, say, topic};
+use crate::{Command, nick, ping, quit, say, topic, whowas};
 use irc_acts::refusals::need_more_params;
 use irc_acts::words::{client_words, word_at, words_behind};
 use irc_acts::{Act, Context, names, only};
-use irc_channel_commands::{invite, join, kick, mode, part};
+use irc_channel_commands::{away, invite, join, kick, mode, part};
 use irc_line::Message;
 use irc_numerics::Reply;
-use irc_queries::{Query, ison, lusers, whois};
+use irc_queries::{Query, ison, lusers, userhost, whois};
 use std::alloc::{AllocError, Global};
 
 /// What a line of a user does, by the row of its command. Too few parameters are answered here,
@@ -30,7 +30,8 @@ pub(crate) fn decide_for(
 ) -> Result<Decision, AllocError>
     ensures { IfOk result (IsRowFor context.now (parsed message.now)) }
 {
-    let Some((name, command, least)) = Command::find(message.command) else {
+    let Some((name, command, least)) = Command::find(context.routes.programs(), message.command)
+    else {
         return unknown(context.alloc, message.command);
     };
     let params = message.params.as_slice();
@@ -68,6 +69,9 @@ fn obey(context: &Context<'_>, command: Command, params: &[&[u8]]) -> Result<Dec
         Command::List => Ok(asks(context.alloc, Query::List)),
         Command::Whois => stays(whois::steps(context, params)),
         Command::Who => Ok(asks(context.alloc, Query::Who)),
+        Command::Away => stays(away::steps(context, params)),
+        Command::Userhost => stays(userhost::steps(context, params)),
+        Command::Whowas => stays(whowas::steps(context.alloc, params)),
     }
 }
 

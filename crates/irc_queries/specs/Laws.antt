@@ -2,6 +2,7 @@
 pub mod OnlyAsks
 pub mod NamesAsks
 pub mod IsonLaw
+pub mod UserhostLaw
 pub mod LusersLaw
 pub mod ListLaw
 pub mod WhoisLaw

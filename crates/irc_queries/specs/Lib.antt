@@ -1,4 +1,6 @@
+pub mod Limits
 pub mod Ison
+pub mod Userhost
 pub mod Lusers
 pub mod List
 pub mod Whois

@@ -19,6 +19,7 @@ use Rattle.irc_routes.specs.Place.{Place, server_named}
 use Rattle.irc_acts.specs.declared.act.Act.{Act}
 use Rattle.irc_acts.specs.declared.act.Act.TheVariants.{Answer}
 use Rattle.irc_acts.specs.Acts.{client_words}
+use Rattle.irc_acts.specs.Away.{is_shown_away}
 use Rattle.irc_acts.specs.Marks.{asterisk}
 use Rattle.irc_acts.specs.Standing.{is_known, is_seen, mark_of}
 use Rattle.irc_acts.specs.Words.{names_channel}
@@ -27,11 +28,12 @@ use Rattle.irc_acts.specs.Words.{names_channel}
 abbrev pub hops_to : Place → List ℕ → ℕ
 hops_to place home = option_map_or (λ server. server.distance) (server_named place home) 0
 
--- a user, and what it is in the channel that was asked for, if one was
+-- a user, whether it is shown as being away, and what it is in the channel that was asked for, if
+-- one was
 abbrev pub user_line : Place → Option (List ℕ) → MemberMark → User → Act
 user_line place channel mark user =
-    Answer (WhoReply channel user.user user.host user.home user.nick mark
-    (hops_to place user.home) user.real)
+    Answer (WhoReply channel user.user user.host user.home user.nick
+    (is_shown_away place.about.programs user) mark (hops_to place user.home) user.real)
 
 -- a member of a channel, where it is seen
 abbrev pub member_if_seen : Place → (User → Bool) → Channel → Flags → User → Option Act

@@ -17,6 +17,7 @@ use Rattle.irc_routes.specs.Place.{Place, server_named}
 use Rattle.irc_acts.specs.declared.act.Act.{Act}
 use Rattle.irc_acts.specs.declared.act.Act.TheVariants.{Answer}
 use Rattle.irc_acts.specs.Acts.{bytes_kept, client_words}
+use Rattle.irc_acts.specs.Away.{away_told}
 use Rattle.irc_acts.specs.CommaLists.{entries}
 use Rattle.irc_acts.specs.Moves.{own_channels}
 use Rattle.irc_acts.specs.Standing.{is_listed, mark_of}
@@ -43,13 +44,14 @@ places room me user = filter_map (place_in me user) (own_channels room user)
 abbrev pub channels_line : User → List OnChannel → Act
 channels_line user channels = Answer (WhoisChannels user.nick (record { items = channels }))
 
--- what a user says of itself, its server, and its channels; where none is listed there is no line
--- of them
+-- what a user says of itself, its server, that it is away where that is shown, and its channels;
+-- where none is listed there is no line of them
 abbrev pub whois_replies : Room → Place → User → User → List Act
 whois_replies room place me user =
     Answer (WhoisUser user.nick user.user user.host user.real)
     ∷ Answer (WhoisServer user.nick user.home (bytes_kept (info_of place user.home)))
-    ∷ map (channels_line user) (in_lines max_whois_channels (places room me user))
+    ∷ away_told place.about.programs user
+    ++ map (channels_line user) (in_lines max_whois_channels (places room me user))
 
 -- what is told of the user that was found under a nickname, if one was
 abbrev pub told_if_there : Room → Place → User → List ℕ → Option User → List Act

@@ -49,21 +49,21 @@ fn nicks_text(users: &[&User]) -> Line
 {
     let mut text = ArrayVec::new();
     for (i, user) in users.iter().enumerate() {
-        push_nick(&mut text, i, user.nick.as_bytes());
+        push_word(&mut text, i, user.nick.as_bytes());
     }
     text
 }
 
-/// Appends a nickname, which one space parts from the one before it.
-fn push_nick(text: &mut Line, place: usize, nick: &[u8])
-    ensures first { place ≡ 0 → text.new.items ≡ cut (text.old.items ++ nick.now) }
-    ensures later { 0 < place → text.new.items ≡ cut (text.old.items ++ (space ∷ nick.now)) }
+/// Appends a word, which one space parts from the one before it.
+pub(crate) fn push_word(text: &mut Line, place: usize, word: &[u8])
+    ensures first { place ≡ 0 → text.new.items ≡ cut (text.old.items ++ word.now) }
+    ensures later { 0 < place → text.new.items ≡ cut (text.old.items ++ (space ∷ word.now)) }
 {
     if place == 0 {
-        push(text, nick);
+        push(text, word);
     } else {
         push(text, &[SPACE]);
-        push(text, nick);
+        push(text, word);
     }
 }
 
@@ -104,14 +104,14 @@ fn add_named<'a>(
 }
 
 /// The words of a parameter, which spaces part.
-fn words_of(alloc: Global, words: &[u8]) -> Result<Vec<&[u8], Global>, AllocError>
+pub(crate) fn words_of(alloc: Global, words: &[u8]) -> Result<Vec<&[u8], Global>, AllocError>
     ensures { IfOk result (λ nicks. words_now nicks.items ≡ slice_split is_space words.now) }
 {
     words.split(|byte| *byte == SPACE).collect(alloc)
 }
 
 /// Appends the users of these nicknames.
-fn add_all<'a>(
+pub(crate) fn add_all<'a>(
     room: &'a Room,
     nicks: &[&[u8]],
     users: &mut Vec<&'a User, Global>,

@@ -7,6 +7,7 @@ pub mod lusers;
 mod own_rows;
 pub mod query;
 mod saying;
+pub mod userhost;
 pub mod who;
 pub mod whois;
 

@@ -16,6 +16,7 @@ ghost use Rattle.irc_queries.specs.Laws.WhoLaw.{WhoOnlyAnswers};
 use crate::own_rows::own_rows;
 use crate::saying::say;
 use irc_acts::Context;
+use irc_acts::away::is_shown_away;
 use irc_acts::standing::{is_known, is_seen, mark_of};
 use irc_acts::words::{client_words, names_channel};
 use irc_batch::Batch;
@@ -230,7 +231,8 @@ fn is_asked_for(mask: &[u8], user: &User) -> bool
     mask == ALL || user.is_found_by(mask)
 }
 
-/// A user, and what it is in the channel that was asked for, if one was.
+/// A user, whether it is shown as being away, and what it is in the channel that was asked for, if
+/// one was.
 fn user_line(routes: &Routes, channel: Option<ChannelName>, mark: MemberMark, user: &User) -> Reply
     ensures { Answer result ≡ user_line (place_of routes.now) channel mark user.now }
 {
@@ -240,6 +242,7 @@ fn user_line(routes: &Routes, channel: Option<ChannelName>, mark: MemberMark, us
         host: user.host.copy(),
         server: user.home.copy(),
         nick: user.nick.copy(),
+        away: is_shown_away(routes.programs(), user),
         mark,
         hops: hops_to(routes, &user.home),
         real: user.real.copy(),

@@ -5,6 +5,7 @@ ghost use Rattle.irc_numerics.specs.declared.replies.Reply.TheVariants.{NoSuchNi
 ghost use Rattle.irc_routes.specs.Known.{place_of};
 ghost use Rattle.irc_acts.specs.declared.act.Act.TheVariants.{Answer};
 ghost use Rattle.irc_acts.specs.Acts.{client_words};
+ghost use Rattle.irc_acts.specs.Away.{away_told};
 ghost use Rattle.irc_acts.specs.CommaLists.{entries};
 ghost use Rattle.irc_queries.specs.Whois.{channels_line, info_of, place_in};
 ghost use Rattle.irc_queries.specs.Loops.Telling.{AddsSteps, CameChannels, CameListed};
@@ -15,6 +16,7 @@ ghost use Rattle.irc_queries.specs.Laws.WhoisLaw.{WhoisOnlyAnswers};
 
 use crate::own_rows::own_rows;
 use arrayvec::ArrayVec;
+use irc_acts::away::away_told;
 use irc_acts::comma_lists::next_entry;
 use irc_acts::standing::{is_listed, mark_of};
 use irc_acts::words::client_words;
@@ -108,7 +110,19 @@ fn put_told(
 {
     put(steps, user_line(user))?;
     put(steps, server_line(context.routes, user))?;
+    put_away(steps, context.routes, user)?;
     put_channels(steps, context, user)
+}
+
+/// Appends that a user is away, where that is shown.
+fn put_away(steps: &mut Vec<Act, Global>, routes: &Routes, user: &User) -> Result<(), AllocError>
+    ensures { OnOk result
+        (AddsSteps (away_told (place_of routes.now).about.programs user.now) steps.old steps.new) }
+{
+    match away_told(routes.programs(), user) {
+        Some(told) => put(steps, told),
+        None => Ok(()),
+    }
 }
 
 /// What a user says of itself.

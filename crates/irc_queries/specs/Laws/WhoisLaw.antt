@@ -1,5 +1,6 @@
 -- The steps of a WHOIS are answers, the same whoever is invited.
 use Rattle.std.proofs.Common.{◌≡◌, ℕ, Option, Some, None, List, [], ◌∷◌, map, refl, ◌++◌, ◌∙◌, ap}
+use Rattle.std.proofs.Common.{option_to_list, option_map}
 use Rattle.std.specs.List.{flat_map, filter_map}
 use Rattle.std.proofs.Math.Path.{fun_ext}
 use Rattle.irc_names.specs.Fold.{key}
@@ -11,9 +12,11 @@ use Rattle.irc_numerics.specs.declared.replies.Reply.TheVariants.{EndOfWhois, Wh
 use Rattle.irc_numerics.specs.declared.replies.Reply.TheVariants.{WhoisServer}
 use Rattle.irc_room.specs.Room.{Room}
 use Rattle.irc_routes.specs.Place.{Place}
+use Rattle.irc_routes.specs.declared.programs.Programs.{Programs}
 use Rattle.irc_acts.specs.declared.act.Act.TheVariants.{Answer}
 use Rattle.irc_acts.specs.Acts.{client_words, effects_among, bytes_kept}
 use Rattle.irc_acts.specs.AheadLaws.{none-both, none-flat}
+use Rattle.irc_acts.specs.Away.{away_line, away_shown, away_told}
 use Rattle.irc_acts.specs.CommaLists.{entries}
 use Rattle.irc_acts.specs.Names.{in_lines}
 use Rattle.irc_acts.specs.AlikeChannels.{own_alike}
@@ -33,11 +36,23 @@ channels_answer : (user : User) (lines : List (List OnChannel))
 channels_answer user [] = refl
 channels_answer user (line ∷ lines) = channels_answer user lines
 
+away_answers : (programs : Programs) (user : User)
+    → effects_among (away_told programs user) ≡ []
+away_answers programs user = by (away_shown programs user)
+  where
+    by : (text : Option (List ℕ))
+        → effects_among (option_to_list (option_map (away_line user) text)) ≡ []
+    by None = refl
+    by (Some text) = refl
+
 there_answers : (room : Room) (place : Place) (me : User) (name : List ℕ) (found : Option User)
     → effects_among (told_if_there room place me name found) ≡ []
 there_answers room place me name None = refl
 there_answers room place me name (Some user) =
-    channels_answer user (in_lines max_whois_channels (places room me user))
+    none-both (away_told place.about.programs user)
+    (map (channels_line user) (in_lines max_whois_channels (places room me user)))
+    (away_answers place.about.programs user)
+    (channels_answer user (in_lines max_whois_channels (places room me user)))
 
 one_answers : (room : Room) (place : Place) (me : User) (name : List ℕ)
     → effects_among (told_of_one room place me name) ≡ []
@@ -68,7 +83,8 @@ module _ (room other : Room) (alike : AreAlike room other) where
   there_alike place me name (Some user) =
       ap (λ (channels : List OnChannel). Answer (WhoisUser user.nick user.user user.host user.real)
       ∷ Answer (WhoisServer user.nick user.home (bytes_kept (info_of place user.home)))
-      ∷ map (channels_line user) (in_lines max_whois_channels channels)) (places_alike me user)
+      ∷ away_told place.about.programs user
+      ++ map (channels_line user) (in_lines max_whois_channels channels)) (places_alike me user)
 
   one_told_alike : (place : Place) (me : User) (name : List ℕ)
       → told_of_one room place me name ≡ told_of_one other place me name

@@ -1,9 +1,10 @@
--- What an ISON, a LUSERS or a WHOIS tells, part by part, as the code's context has it.
-use Rattle.std.specs.Prelude.{◌≡◌, ℕ, List, ◌++◌, map}
+-- What an ISON, a USERHOST, a LUSERS or a WHOIS tells, part by part, as the code's context has it.
+use Rattle.std.specs.Prelude.{◌≡◌, ℕ, List, ◌++◌, map, filter}
 use Rattle.std.specs.Borrow.{Bor}
 use Rattle.std.specs.Global.{Vec}
 use Rattle.std.specs.List.{filter_map, flat_map}
 use Rattle.arrayvec.specs.ArrayVec.{ArrayVec}
+use Rattle.irc_line.specs.PartViews.{words_now}
 use Rattle.irc_tables.specs.declared.table.Row.{Row}
 use Rattle.irc_users.specs.declared.user.User.{User}
 use Rattle.irc_channels.specs.declared.channel.Channel.{Channel}
@@ -20,6 +21,7 @@ use Rattle.irc_acts.specs.Loops.FilledLines.{Came}
 use Rattle.irc_acts.specs.Names.{in_lines}
 use Rattle.irc_queries.specs.Ison.{ison_steps, users_named}
 use Rattle.irc_queries.specs.Lusers.{lusers_steps}
+use Rattle.irc_queries.specs.Userhost.{is_word, userhost_steps, users_asked}
 use Rattle.irc_queries.specs.Whois.{channels_line, info_of, place_in, places, whois_replies}
 use Rattle.irc_queries.specs.Whois.{told_of_list, told_of_one, whois_steps}
 
@@ -34,6 +36,11 @@ channels_now rows = map (λ (row : Bor (Row Channel)). row.now.value) rows
 abbrev pub AddsUsers : List User → Vec (Bor User) → Vec (Bor User) → Type 0
 AddsUsers more old new = users_now new.items ≡ users_now old.items ++ more
 
+-- From words to words: those of these that are not empty are appended.
+abbrev pub AddsWords : List (List ℕ) → Vec (Bor (List ℕ)) → Vec (Bor (List ℕ)) → Type 0
+AddsWords pieces old new =
+    words_now new.items ≡ words_now old.items ++ filter is_word pieces
+
 -- From steps to steps: these are appended.
 abbrev pub AddsSteps : List Act → Vec Act → Vec Act → Type 0
 AddsSteps more old new = new.items ≡ old.items ++ more
@@ -44,6 +51,14 @@ ison_here context params = ison_steps context.room.now.room params
 -- the users whose nicknames stand in these parameters
 abbrev pub all_named : Context → List (List ℕ) → List User
 all_named context params = flat_map (users_named context.room.now.room) params
+
+abbrev pub userhost_here : Context → List (List ℕ) → List Act
+userhost_here context params =
+    userhost_steps context.room.now.room (place_of context.routes.now) params
+
+-- the users whose nicknames are among the first words of these parameters
+abbrev pub asked_here : Context → List (List ℕ) → List User
+asked_here context params = users_asked context.room.now.room params
 
 abbrev pub lusers_here : Context → List Act
 lusers_here context = lusers_steps context.room.now.room (place_of context.routes.now)

@@ -23,7 +23,7 @@ loop-i-preserved c =
     entry_goes_on once users i c.index-users-i.result _ _ c.loop-i-test.true c.index-users-i.is
     (c.loop-i.invariant ∙ ap (λ (nicks : List (List ℕ)). cut (spaced nicks))
     (map-map nick now (take i users)))
-    (λ first. c.push_nick.ensures.first first ∙ ap (λ n. cut (text ++ n)) name)
-    (λ later. c.push_nick.ensures.later later ∙ ap (λ n. cut (text ++ (space ∷ n))) name)
+    (λ first. c.push_word.ensures.first first ∙ ap (λ n. cut (text ++ n)) name)
+    (λ later. c.push_word.ensures.later later ∙ ap (λ n. cut (text ++ (space ∷ n))) name)
     ∙ ap (λ (nicks : List (List ℕ)). cut (spaced nicks))
     (sym (map-map nick now (take (i + 1) users)))
