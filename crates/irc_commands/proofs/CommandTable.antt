@@ -115,7 +115,8 @@ by_user : (room : Room) (place : Place) (who : List ℕ) (message : Parsed) (Q :
 by_user room place who message Q so None is = so.silent
 by_user room place who message Q so (Some me) is =
     by_test Q (is_from message.prefix (Some me.nick)) (row_for room place me message) nothing
-    (λ own. (by_row place message (row_named place.about.programs message.command)).cases me room who Q so is)
+    (λ own. (by_row place message (row_named place.about.programs message.command)).cases
+    me room who Q so is)
     (λ foreign. so.silent)
 
 pub decided_so : (room : Room) (place : Place) (who : List ℕ) (message : Parsed)

@@ -205,4 +205,5 @@ pub registering_by_users : RegisteringByUsers
 unfolding register
 registering_by_users room other place pending message same =
     ap (λ row. if is_from message.prefix pending.nick then row else replies pending [])
-    (row_same room other place same pending message.params (command_of place.about.programs message.command))
+    (row_same room other place same pending message.params
+    (command_of place.about.programs message.command))

@@ -107,7 +107,8 @@ say_to_all : (room : Room) (programs : Programs) (me : User) (P : Act → Type 0
     (targets words : List ℕ) → IsSoWhereSaid room me which words P
     → AllByRecursion P (say_to room programs me which targets words)
 say_to_all room programs me P which targets words so =
-    all_appended P (flat_map (to_one room programs me which words) (take MAX_TARGETS (entries targets)))
+    all_appended P
+    (flat_map (to_one room programs me which words) (take MAX_TARGETS (entries targets)))
     (too_many (drop MAX_TARGETS (entries targets)))
     (all_flat P (to_one room programs me which words) (take MAX_TARGETS (entries targets))
     (one_all room programs me P which words so))
@@ -119,7 +120,8 @@ one_answer P answers which reply = unless_all P which (Answer reply ∷ []) (ans
 
 -- the words are the second parameter
 pub said_all : (room : Room) (programs : Programs) (me : User) (P : Act → Type 0)
-    → ((reply : Reply) → P (Answer reply)) → (which : Verb) (params : List (List ℕ)) → ((targets words : List ℕ) (more : List (List ℕ))
+    → ((reply : Reply) → P (Answer reply)) → (which : Verb) (params : List (List ℕ))
+    → ((targets words : List ℕ) (more : List (List ℕ))
     → params ≡ targets ∷ words ∷ more → IsSoWhereSaid room me which words P)
     → AllByRecursion P (say_steps room programs me which params)
 unfolding say_steps

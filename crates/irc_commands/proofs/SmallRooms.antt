@@ -69,7 +69,8 @@ pub unknown_target : UnknownTarget
 unfolding decide command_row say_steps entries
 unknown_target =
     ap (decide_for al_alone a_net (line (codes "PRIVMSG") (codes "bo" ∷ codes "hi" ∷ []))) al_there
-    ∙ ap (λ o. does ((to_user programs.Off al verb.Privmsg (codes "bo") (codes "hi") o ++ []) ++ [])) bo_missing
+    ∙ ap (λ o. does ((to_user programs.Off al verb.Privmsg (codes "bo") (codes "hi") o ++ [])
+    ++ [])) bo_missing
 
 abbrev said : Option User → List Act
 said o = to_user programs.Off al verb.Privmsg (codes "al") (codes "x") o
@@ -174,8 +175,8 @@ unfolding decide command_row say_steps entries
 away_is_told =
     ap (decide_for al_away_alone a_net_serves
     (line (codes "PRIVMSG") (codes "al" ∷ codes "x" ∷ []))) al_away_there
-    ∙ ap (λ o. does ((to_user programs.On al_away verb.Privmsg (codes "al") (codes "x") o ++ []) ++ []))
-    al_away_there
+    ∙ ap (λ o. does ((to_user programs.On al_away verb.Privmsg (codes "al") (codes "x") o ++ [])
+    ++ [])) al_away_there
 
 pub notice_is_not_told : NoticeIsNotTold
 unfolding decide command_row say_steps entries
@@ -183,7 +184,8 @@ notice_is_not_told =
     ap (decide_for al_away_alone a_net_serves
     (line (codes "NOTICE") (codes "al" ∷ codes "x" ∷ []))) al_away_there
     ∙ ap (λ o. does (unless_notice verb.Notice
-    ((to_user programs.On al_away verb.Notice (codes "al") (codes "x") o ++ []) ++ []))) al_away_there
+    ((to_user programs.On al_away verb.Notice (codes "al") (codes "x") o ++ []) ++ [])))
+    al_away_there
 
 pub away_is_unknown : AwayIsUnknown
 unfolding decide command_row
@@ -195,5 +197,5 @@ unfolding decide command_row say_steps entries
 away_is_hidden =
     ap (decide_for al_away_alone a_net (line (codes "PRIVMSG") (codes "al" ∷ codes "x" ∷ [])))
     al_away_there
-    ∙ ap (λ o. does ((to_user programs.Off al_away verb.Privmsg (codes "al") (codes "x") o ++ []) ++ []))
-    al_away_there
+    ∙ ap (λ o. does ((to_user programs.Off al_away verb.Privmsg (codes "al") (codes "x") o ++ [])
+    ++ [])) al_away_there

@@ -115,6 +115,7 @@ unfoldable pub say_steps : Room → Programs → User → Verb → List (List �
 say_steps room programs me which [] =
     unless_notice which (Answer (NoRecipient (client_words (say_command which))) ∷ [])
 say_steps room programs me which (targets ∷ []) = unless_notice which (Answer NoTextToSend ∷ [])
-say_steps room programs me which (targets ∷ [] ∷ more) = unless_notice which (Answer NoTextToSend ∷ [])
+say_steps room programs me which (targets ∷ [] ∷ more) =
+    unless_notice which (Answer NoTextToSend ∷ [])
 say_steps room programs me which (targets ∷ (b ∷ bytes) ∷ more) =
     unless_notice which (say_to room programs me which targets (b ∷ bytes))

@@ -144,7 +144,8 @@ fn to_channel(found: Option<&Channel>, me: &User, verb: Verb, words: &[u8], name
 
 /// What is said to a user.
 fn to_user(me: &User, verb: Verb, words: &[u8], user: &User) -> Act
-    ensures { say_text me.now verb (target.User user.now.nick) user.now.nick words.now ≡ result ∷ [] }
+    ensures { say_text me.now verb (target.User user.now.nick) user.now.nick words.now
+        ≡ result ∷ [] }
 {
     Act::Do(Effect::Say {
         by: me.nick.copy(),

@@ -79,8 +79,9 @@ away_carries me room params =
 
 pub away_is_sendable : AwayIsSendable
 away_is_sendable me room params well mine =
-    own_are_sendable me room (away_steps me params) well (nick_stored room well (key me.nick) me mine)
-    (away_is_own me room params) (away_carries me room params)
+    own_are_sendable me room (away_steps me params) well
+    (nick_stored room well (key me.nick) me mine) (away_is_own me room params)
+    (away_carries me room params)
 
 -- ---- it is another than it was
 
