@@ -1,7 +1,8 @@
 //! One server.
-ghost use Rattle.std.specs.Prelude.{◌≡◌, Ok, Some, false, is_some, IfOk, OnOk};
+ghost use Rattle.std.specs.Prelude.{◌≡◌, [], Ok, Some, false, is_some, IfOk, OnOk};
 ghost use Rattle.std.specs.FinMap.{get};
 ghost use Rattle.std.specs.Option.{option_and_then, option_copied, option_map, option_map_or};
+ghost use Rattle.irc_routes.specs.Known.{others};
 ghost use Rattle.irc_server.specs.Configuring.{IsMade, IsMadeServing};
 ghost use Rattle.irc_server.specs.Connected.{has_user, is_user};
 ghost use Rattle.irc_server.specs.LinesThatSet.{IsSetBy};
@@ -11,7 +12,7 @@ ghost use Rattle.irc_server.specs.Loops.Acting.{room_kept, room_of};
 ghost use Rattle.irc_server.specs.Loops.Settings.{fault_at};
 ghost use Rattle.irc_server.specs.Loops.States.{view_in};
 ghost use Rattle.irc_server.specs.declared.server.State.TheVariants.{Failed, Running};
-ghost use Rattle.irc_stage.specs.View.{password_for, View};
+ghost use Rattle.irc_stage.specs.View.{new_view, password_for, View};
 
 use crate::acting::{act, refusal, unless_open};
 use crate::config::{Config, ConfigFault, config_fault};
@@ -21,7 +22,7 @@ use irc_batch::Batch;
 use irc_line::Line;
 use irc_room::Room;
 use irc_routes::{Programs, Routes};
-use irc_stage::{Client, Conn, FirstStage, Link, Stage, View};
+use irc_stage::{Client, Conn, FirstStage, Link, Peer, Stage, View};
 use std::alloc::{AllocError, Global};
 use std::marker::Model;
 use std::mem;
@@ -105,9 +106,7 @@ impl Server {
             return Err(fault);
         }
         let routes = Routes::new(config.own);
-        Ok(Server {
-            state: State::First(FirstStage::new(alloc, routes, config.peers)),
-        })
+        Ok(Server::begun(alloc, routes, config.peers))
     }
 
     /// The same of a server whose links tell who is away, and whose clients have what programs
@@ -118,13 +117,23 @@ impl Server {
     pub fn serving(alloc: Global, config: Config, programs: Programs) -> Result<Self, ConfigFault>
         ensures { IsMadeServing programs config result }
     {
-        if let Some(fault) = config_fault(&config) {
-            return Err(fault);
+        match config_fault(&config) {
+            Some(fault) => Err(fault),
+            None => {
+                let routes = Routes::serving(config.own, programs);
+                Ok(Server::begun(alloc, routes, config.peers))
+            }
         }
-        let routes = Routes::serving(config.own, programs);
-        Ok(Server {
-            state: State::First(FirstStage::new(alloc, routes, config.peers)),
-        })
+    }
+
+    /// A server that knows no other, with these peers.
+    fn begun(alloc: Global, routes: Routes, peers: Vec<Peer, Global>) -> Self
+        requires alone { others routes ≡ [] }
+        ensures { result ≡ Some (new_view routes peers.items) }
+    {
+        Server {
+            state: State::First(FirstStage::new(alloc, routes, peers)),
+        }
     }
 
     /// What it is now; nothing once memory ran out.

@@ -6,13 +6,14 @@ use Rattle.std.specs.declared.alloc.Global.{Global}
 use Rattle.std.specs.Option.{option_copied}
 use Rattle.std.specs.declared.net.socket_addr.SocketAddr.{SocketAddr}
 use Rattle.std.proofs.lemmas.List.{nil_from_length}
+use Rattle.irc_routes.specs.About.{about_of, serves}
 use Rattle.irc_routes.specs.declared.programs.Programs.{Programs}
 use Rattle.irc_server.specs.declared.config.Config.{Config}
 use Rattle.irc_server.specs.declared.config.ConfigFault.{ConfigFault}
 use Rattle.irc_server.specs.declared.config.ConfigFault.TheVariants.{BadName, DoubleName, Memory}
-use Rattle.irc_server.specs.Configuring.{config_fault, made_view, served_view, IsMadeServing}
+use Rattle.irc_server.specs.Configuring.{config_fault, IsMadeServing}
 use Rattle.irc_stage.specs.View.{View}
-use Rattle.irc_engine.specs.Knowing.{HasAs, HasNobody}
+use Rattle.irc_engine.specs.Knowing.{HasNobody}
 use Rattle.irc_engine.specs.Lemmas.NewServers.{made_has_nobody}
 use Rattle.irc_settings.specs.declared.settings.Settings.{Settings}
 use Rattle.irc_settings.specs.declared.settings.PeerSettings.{PeerSettings}
@@ -207,13 +208,8 @@ server_refused settings config Memory configures made = tt
 -- what its clients have makes no difference to who is connected to a server that has been made
 pub served_has_nobody : (programs : Programs) (config : Config) (server : Option View)
     → IsMadeServing programs config (Ok server) → HasNobody server
-served_has_nobody programs config server made conn view is =
-    subst (λ (v : View). HasAs v conn None)
-    (one_view (served_view programs config) view (sym made.1 ∙ is))
-    (made_has_nobody config (Some (made_view config)) (made.0, refl) conn (made_view config) refl)
-  where
-    one_view : (a b : View) → Some a ≡ Some b → a ≡ b
-    one_view a b same = cc same
+served_has_nobody programs config server made =
+    made_has_nobody (serves programs (about_of config.own)) config server made
 
 -- ---- what clients are asked
 

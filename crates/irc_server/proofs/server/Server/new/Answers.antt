@@ -4,8 +4,8 @@ use Rattle.irc_routes.specs.Known.{others}
 use Rattle.irc_stage.specs.Lemmas.Alone.{knows_no_other}
 use Rattle.irc_server.proofs.server.Server.new.Goals as goal
 
-pub new-requires : goal.new-requires
-new-requires c = record {
-  alone = ap others c.new-routes.ensures ∙ knows_no_other c.args.config.own.name.items
+pub begun-requires : goal.begun-requires
+begun-requires c = record {
+  alone = ap others c.new.ensures ∙ knows_no_other c.args.config.own.name.items
       (about_of c.args.config.own);
 }
