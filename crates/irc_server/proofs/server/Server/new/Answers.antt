@@ -6,6 +6,6 @@ use Rattle.irc_server.proofs.server.Server.new.Goals as goal
 
 pub begun-requires : goal.begun-requires
 begun-requires c = record {
-  alone = ap others c.new.ensures ∙ knows_no_other c.args.config.own.name.items
+  alone = ap others c.new-routes.ensures ∙ knows_no_other c.args.config.own.name.items
       (about_of c.args.config.own);
 }

@@ -6,6 +6,6 @@ use Rattle.irc_server.proofs.server.Server.serving.Goals as goal
 
 pub begun-requires : goal.begun-requires
 begun-requires c = record {
-  alone = ap others c.serving.ensures ∙ knows_no_other c.args.config.own.name.items
+  alone = ap others c.serving-routes.ensures ∙ knows_no_other c.args.config.own.name.items
       (serves c.args.programs (about_of c.args.config.own));
 }
