@@ -205,9 +205,9 @@ server_refused settings config DoubleName configures made =
 server_refused settings config Memory configures made = tt
 
 -- what its clients have makes no difference to who is connected to a server that has been made
-pub served_has_nobody : (programs : Programs) (config : Config) (server : Option View)
-    → IsMadeServing programs config (Ok server) → HasNobody server
-served_has_nobody programs config server made conn view is =
+pub served_has_nobody : (programs : Programs) (config : Config) (behind : Option View)
+    → IsMadeServing programs config (Ok behind) → HasNobody behind
+served_has_nobody programs config behind made conn view is =
     subst (λ (v : View). HasAs v conn None)
     (one_view (served_view programs config) view (sym made.1 ∙ is))
     (made_has_nobody config (Some (made_view config)) (made.0, refl) conn (made_view config) refl)
