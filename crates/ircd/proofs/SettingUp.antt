@@ -206,10 +206,10 @@ server_refused settings config DoubleName configures made =
 server_refused settings config Memory configures made = tt
 
 -- what its clients have makes no difference to who is connected to a server that has been made
-pub served_has_nobody : (programs : Programs) (config : Config) (server : Option View)
-    → IsMadeServing programs config (Ok server) → HasNobody server
-served_has_nobody programs config server made =
-    made_has_nobody (serves programs (about_of config.own)) config server made
+pub served_has_nobody : (programs : Programs) (config : Config) (behind : Option View)
+    → IsMadeServing programs config (Ok behind) → HasNobody behind
+served_has_nobody programs config behind made =
+    made_has_nobody (serves programs (about_of config.own)) config behind made
 
 -- ---- what clients are asked
 

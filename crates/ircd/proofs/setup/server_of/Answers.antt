@@ -28,5 +28,5 @@ returns c = record {
   configures = c.in_ok-config.ensures;
   no_fault = c.in_ok-server.ensures.0;
   server_is = c.in_ok-server.ensures.1
-      ∙ ap (λ programs. Some (served_view programs c.in_ok-config.field-0)) c.programs.ensures;
+      ∙ ap (λ some. Some (served_view some c.in_ok-config.field-0)) c.programs-programs.ensures;
 }
