@@ -3,8 +3,9 @@
 --   Told, Stated, Taken   each line tells of what the room has, and can be taken by the other's
 --                         room
 --   Read, Written         what the other side reads of it, and what the end writes
---   ChannelLines          which of them are about a channel
---   Lines, Collisions     what a server makes of one line: it says its deed, or it stands aside;
+--   ChannelLines          which of them stand behind the introductions
+--   Lines, ChangeLines, Collisions
+--                         what a server makes of one line: it says its deed, or it stands aside;
 --                         which may be answered
 pub mod Told
 pub mod Stated

@@ -1,14 +1,15 @@
 -- The line of a burst that tells what a user has set: it is done where the user is there, behind
 -- the link, and nothing comes of it where it is not, since its nickname was on both sides.
-use Rattle.std.proofs.Common.{◌≡◌, ℕ, ◌≤◌, Bool, true, false, cond, ◌&&◌, if◌then◌else◌, Option}
-use Rattle.std.proofs.Common.{Some, None, Ok, List, [], ◌∷◌, ◌++◌, map, length, is_some, refl, sym}
-use Rattle.std.proofs.Common.{◌∙◌, ap, subst}
+use Rattle.std.proofs.Common.{◌≡◌, ℕ, Bool, true, false, ◌&&◌, if◌then◌else◌, Option, Some, None}
+use Rattle.std.proofs.Common.{Ok, List, [], ◌∷◌, map, is_some, refl, ◌∙◌, ap, subst}
+use Rattle.std.proofs.Math.Bool.{and-true}
 use Rattle.std.proofs.lemmas.Option.{none-some, same_Some}
 use Rattle.std.specs.Option.{option_map, option_map_or}
 use Rattle.irc_line.specs.Lines.{IsLine}
 use Rattle.irc_line.specs.Messages.{line_text, message_of}
 use Rattle.irc_line.specs.Reading.{read_of}
 use Rattle.irc_names.specs.Fold.{key}
+use Rattle.irc_names.specs.Lemmas.PlainFacts.{is_some-map}
 use Rattle.irc_names.specs.Lemmas.RuleFacts.{nick-fits}
 use Rattle.irc_names.specs.Names.{IsNick, is_nick}
 use Rattle.irc_names.specs.Tables.{Table, row}
@@ -31,8 +32,7 @@ use Rattle.irc_readback.specs.Lemmas.CarriedParts.{told_is_carried}
 use Rattle.irc_readback.specs.Lemmas.ChangeRead.{change_meant}
 use Rattle.irc_readback.specs.Lemmas.LinesReadBack.{change_plain, change_whole}
 use Rattle.irc_readback.specs.Lemmas.NameKinds.{nick-no_server}
-use Rattle.irc_burst.specs.DeedsMeant.{a_deed, deeds_meant, effects_told, kept_prefix}
-use Rattle.irc_burst.specs.DeedsMeant.{read_burst_row, server_of}
+use Rattle.irc_burst.specs.DeedsMeant.{a_deed, deeds_meant, effects_told, kept_prefix, server_of}
 use Rattle.irc_stage.specs.View.{View}
 use Rattle.irc_server.specs.Heard.{heard, tells}
 use Rattle.irc_relay.specs.Links.{Name}
@@ -117,12 +117,11 @@ module _ (laws : IsKnownOfLines) (s : ItemSetting) (b t : Name) (w : SideState) 
   -- who is there by the reader's table is there
   there_so : (c : Bool) → has_user w.hall.room nick ≡ c
       → (is_some (reader.home nick) && true) ≡ c
-  there_so c has = ap (λ o. is_some o && true) home_is ∙ by (row w.hall.room.users (key nick)) ∙ has
-    where
-      by : (o : Option User)
-          → (is_some (option_map (λ (user : User). user.home) o) && true) ≡ is_some o
-      by None = refl
-      by (Some user) = refl
+  there_so c has =
+      and-true (is_some (reader.home nick))
+      ∙ ap is_some home_is
+      ∙ is_some-map (λ (user : User). user.home) (row w.hall.room.users (key nick))
+      ∙ has
 
   abbrev done_if : Bool → List Deed
   done_if c = if c then does (ChangeUser nick change) ∷ [] else []
@@ -155,14 +154,10 @@ module _ (laws : IsKnownOfLines) (s : ItemSetting) (b t : Name) (w : SideState) 
       (change_whole nick change (nick-fits nick nick_named) told.keeps)
       (meant_so c has)
 
-  both_there : (c : Bool) → c ≡ true → (c && true) ≡ true
-  both_there true e = refl
-  both_there false e = e
-
   doable : has_user w.hall.room nick ≡ true → IsDoableEffect s w (ChangeUser nick change)
   doable has = record {
     possible = record {
-      users_there = both_there (has_user w.hall.room nick) has;
+      users_there = and-true (has_user w.hall.room nick) ∙ has;
       channel_there = refl;
       nick_free = refl;
     };

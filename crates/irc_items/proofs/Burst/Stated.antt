@@ -1,5 +1,5 @@
--- Each line of a burst tells of what the room has of which it is told: its users, and of each
--- channel the members, the modes, the bans and the topic.
+-- Each line of a burst tells of what the room has of which it is told: its users, what they have
+-- set, and of each channel the members, the modes, the bans and the topic.
 use Rattle.std.proofs.Common.{◌≡◌, ℕ, ◌+◌, ◌*◌, ◌-◌, ◌<◌, ◌≤◌, Bool, true, false, ◌&&◌}
 use Rattle.std.proofs.Common.{if◌then◌else◌, Option, Some, None, IfSome, suc, zero, List, [], ◌∷◌}
 use Rattle.std.proofs.Common.{◌++◌, length, map, take, drop, decimal, filter_map, refl, sym, ◌∙◌}
