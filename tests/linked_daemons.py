@@ -12,6 +12,7 @@
   liars    peers with a wrong password, an unknown name, a name that is there, or lines out of place are closed
   counted  a peer that counts pieces is told how many were read, is read as it meant what it wrote, and is closed where it counts too many
   absent   who is away is told to a peer that said both words and by it, and neither to nor by one that said one of them or none
+  away     who is away is shown by servers that have what programs expect, across one that has not, from before a link and until it is back
   doors    a peer at the clients' port stays a client, and a client at the links' port is closed
   silent   peers that connect and say nothing, or no end of a line, change nothing
   knocking who connects at the links' door without end keeps nobody waiting, and new clients come in by theirs
@@ -72,6 +73,7 @@ class Daemon:
         self.port, self.links = free_ports(2)
         self.rooms = (client_room, link_room)
         self.peers = []
+        self.head = ""
         self.path = os.path.join(folder, name + ".toml")
         self.text = None
         self.process = None
@@ -83,6 +85,7 @@ class Daemon:
     def configuration(self):
         text = (f'name = "{self.name}"\ninfo = "Linked"\ncreated = "2024-01-01"\nlisten = "127.0.0.1:{self.port}"\n'
                 f'listen_links = "127.0.0.1:{self.links}"\nclient_room = {self.rooms[0]}\nlink_room = {self.rooms[1]}\n')
+        text += self.head
         for name, calls, retry in self.peers:
             text += f'[[peer]]\nname = "{name}"\npassword = "{PASSWORD}"\n'
             if calls is not None:
@@ -691,6 +694,38 @@ def absent(program):
                     "and not to one that said less, which is closed where it tells of it")
 
 
+def away(program):
+    """b.net in the middle has not what programs expect; al is away at a.net from before the links of c.net."""
+    with Network(program, ["a.net", "b.net", "c.net"], [("b.net", "a.net"), ("c.net", "b.net")]) as network:
+        network["a.net"].head = network["c.net"].head = "programs = true\n"
+        for name in ("a.net", "b.net"):
+            network[name].start()
+        network.see_all("a.net", 2)
+        al, bo = network.person("a.net", "al").joins("#den"), network.person("b.net", "bo").joins("#den")
+        al.sees("^:bo![^ ]+ JOIN :?#den$")
+        al.says("AWAY :at lunch", "PRIVMSG #den :gone")
+        al.sees(" 306 ")
+        bo.sees("^:al![^ ]+ PRIVMSG #den :gone$")
+        network["c.net"].start()
+        network.see_all("c.net", 3)
+        cy = network.person("c.net", "cy")
+        answers = []
+        for person in (bo, cy):
+            person.says("PRIVMSG al :hi", "WHO al", "WHOIS al", "USERHOST al", "NOTICE al :hi", "PING end")
+            person.sees(" PONG .*end$")
+            answers.append([line for line in person.seen if re.search(r" (301|302|352|421) ", line)])
+        of_bo, of_cy = answers
+        untold = [line.split(" ")[1] for line in of_bo] == ["352", "421"] and " H " in of_bo[0]
+        shown = [line.split(" ")[1] for line in of_cy] == ["301", "352", "301", "302"]
+        shown = shown and of_cy[0].endswith(" 301 cy al :at lunch") and " G " in of_cy[1] and ":al=-" in of_cy[3]
+        al.says("AWAY", "PRIVMSG cy :back")
+        cy.sees("^:al![^ ]+ PRIVMSG cy :back$")
+        cy.says("PRIVMSG al :hi", "WHO al")
+        back = " H " in cy.sees(" 352 ") and not any(" 301 " in line for line in cy.seen[-2:])
+        return told("away", untold and shown and back and network.all_run(),
+                    "across a server that does not show it, and from before a link, cy is told that al is away, and no more when al is back; bo nothing")
+
+
 def greeting(network, name):
     """A peer that calls a.net with its words."""
     peer = network.peer("a.net", name, greets=False)
@@ -1239,7 +1274,7 @@ def spoken(program):
     return goes_on(program, {"stderr": None, "preexec_fn": lambda: os.close(2)}, "closed") and held
 
 
-PARTS = [people, clash, lost, burst, joined, wild, deaf, small, liars, counted, absent, doors, silent, knocking, reset, waiting, refused, files, late, again, crossing,
+PARTS = [people, clash, lost, burst, joined, wild, deaf, small, liars, counted, absent, away, doors, silent, knocking, reset, waiting, refused, files, late, again, crossing,
          ring, flooding, probed, spoken]
 
 
