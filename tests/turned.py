@@ -41,6 +41,14 @@ PRINTS_NETWORK = re.compile(r"\bprints_network\(rt\.alloc\(\), (\w+)\)")
 PRINTS_PARTS = re.compile(r"\bprints_parts\(rt\.alloc\(\), &\[([\w, ]+)\]\)")
 EITHER_WAY = re.compile(r"\bprints_either_way\(rt\.alloc\(\), &\[([\w, ]+)\], &\[([\w, ]+)\]\)")
 REASON = re.compile(r"(\S+) (\w+): .+")
+# who refuses a turn of what programs expect: no script has a server with it
+AWAY = "crates/tests_links/src/away.rt"
+EXPECTED = {
+    "301": "who_asks_or_writes_is_told", "302": "a_userhost_and_a_whowas_are_answered",
+    "305": "a_user_says_that_it_is_away", "306": "a_user_says_that_it_is_away",
+    "369": "a_userhost_and_a_whowas_are_answered", "406": "a_userhost_and_a_whowas_are_answered",
+    "AWAY": "a_user_says_that_it_is_away", "USERHOST": "a_userhost_and_a_whowas_are_answered",
+    "WHOWAS": "a_userhost_and_a_whowas_are_answered"}
 
 
 class Turn(NamedTuple):
@@ -77,12 +85,17 @@ def turn(block):
     return Turn(name, "\n".join(old), "\n".join(new), reasons[0] if reasons else None)
 
 
+def refused(word):
+    """Who refuses a turn of a reply or a command that no script has, if it is one."""
+    return f"{AWAY} {EXPECTED[word]}: programs expect it" if word in EXPECTED else None
+
+
 def made(source):
     """Turns of the words of replies and of the table of commands."""
     for number in sorted(set(re.findall(r'b"(\d{3})": b"', source))):
-        yield Turn(f"{number} has other words", f'b"{number}": b"', f'b"{number}": b"x', None)
+        yield Turn(f"{number} has other words", f'b"{number}": b"', f'b"{number}": b"x', refused(number))
     for command in re.findall(r'^    b"([A-Z]+)": \(', source, re.M):
-        yield Turn(f"{command} is no command", f'b"{command}": (', f'b"{command}x": (', None)
+        yield Turn(f"{command} is no command", f'b"{command}": (', f'b"{command}x": (', refused(command))
 
 
 def spelled_out(text):
