@@ -1,5 +1,5 @@
 -- The targets of a message, served one after another.
-use Rattle.std.proofs.Common.{◌≡◌, ℕ, ◌+◌, ◌-◌, ◌<◌, not, List, [], ◌∷◌, ◌++◌, take, drop, suc}
+use Rattle.std.proofs.Common.{◌≡◌, ℕ, ◌+◌, ◌-◌, ◌<◌, not, List, ◌∷◌, ◌++◌, take, drop, suc}
 use Rattle.std.proofs.Common.{refl, sym, ◌∙◌, ap, append_assoc, arith}
 use Rattle.std.specs.List.{flat_map}
 use Rattle.std.proofs.lemmas.List.Elements.{filter-append}

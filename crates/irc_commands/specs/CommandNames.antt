@@ -7,7 +7,6 @@ use Rattle.std.specs.Cmp.Lexicographic.{pointwise}
 use Rattle.std.specs.Option.{option_map}
 use Rattle.irc_commands.specs.declared.command_names.Command.{Command}
 use Rattle.irc_commands.specs.declared.command_names.Command.TheVariants as command
-use Rattle.irc_users.specs.declared.user.User.{User}
 use Rattle.std.specs.Borrow.{Bor}
 use Rattle.irc_names.specs.Tables.{row}
 use Rattle.irc_routes.specs.declared.programs.Programs.{Programs}

@@ -9,7 +9,7 @@
 --   a text that was cut within a letter            the same without its beginning (`Letters.antt`)
 -- 341 has the channel first by RFC 2812 section 5.1, and other servers the nickname. A text may
 -- have been cut where its line is 510 bytes long, or it is itself as long as texts are kept: 160
--- bytes, 50 of a real name, which stands in 311 and 314, and behind a number in 352.
+-- bytes, 50 of a real name, which stands in 311, and behind a number in 352.
 use Rattle.std.specs.Prelude.{ℕ, ◌-◌, Bool, ◌&&◌, ◌||◌, Option, Some, None, Result, Ok, Err, List}
 use Rattle.std.specs.Prelude.{[], ◌∷◌, ◌++◌, codes, get_or, length, nat_eq, nat_le, nat_lt, take}
 use Rattle.std.specs.Prelude.{if◌then◌else◌}
@@ -70,7 +70,7 @@ abbrev pub says : (command : List ℕ) → Parsed → Bool
 says command message = bytes_eq message.command command
 
 abbrev pub has_name_last : Parsed → Bool
-has_name_last message = says (codes "311") message || says (codes "314") message
+has_name_last message = says (codes "311") message
 
 abbrev pub is_full : List ℕ → Parsed → Bool
 is_full line message =

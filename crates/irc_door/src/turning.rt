@@ -1,5 +1,5 @@
 //! A text for a client, as it is written to it.
-ghost use Rattle.std.specs.Prelude.{◌≡◌, ◌-◌, ◌++◌, length, take};
+ghost use Rattle.std.specs.Prelude.{◌≡◌, ◌-◌, ◌++◌};
 ghost use Rattle.irc_line.specs.Bytes.{crlf, cut};
 ghost use Rattle.irc_line.specs.MessageViews.{optional_now, parsed};
 ghost use Rattle.irc_line.specs.Messages.{text};
@@ -145,11 +145,11 @@ fn is_full(line: &[u8], message: &Message<'_>) -> bool
         || (says(b"352", message) && last >= LEAST_WITH_NAME)
 }
 
-/// Whether a line ends in a real name: of somebody who is here, or was.
+/// Whether a line ends in a real name: the first of what WHOIS is answered.
 fn has_name_last(message: &Message<'_>) -> bool
     ensures { result ≡ has_name_last (parsed message.now) }
 {
-    says(b"311", message) || says(b"314", message)
+    says(b"311", message)
 }
 
 /// A line up to the letter within which it ends, if it ends within one.

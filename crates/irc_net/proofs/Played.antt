@@ -20,7 +20,7 @@ use Rattle.irc_net.specs.declared.step.Step.TheVariants.{Bytes, Deliver, Give, S
 use Rattle.irc_net.specs.declared.step.StepAnswer.{StepAnswer}
 use Rattle.irc_net.specs.declared.step.StepAnswer.TheVariants.{Delivered, Given, Refused, Settled}
 use Rattle.irc_net.specs.declared.step.StepAnswer.TheVariants.{Taken}
-use Rattle.irc_net.specs.Calls.{ArePlayed, Breaks, BytesTaken, IsDelivered, IsGiven, IsSettled}
+use Rattle.irc_net.specs.Calls.{ArePlayed, Breaks, BytesTaken, IsDelivered, IsGiven}
 use Rattle.irc_net.specs.Calls.{IsStep, NetView, PlaysSteps}
 use Rattle.irc_net.specs.Calls as calls
 use Rattle.irc_net.specs.Faults.{deliver_fault, fault_by, is_refusal, item_fault}

@@ -54,10 +54,6 @@ pub record ReplyWords : Type 0 where
 abbrev pub saying : List (List ℕ) → List ℕ → ReplyWords
 saying words last = record { middle = words; last = Some last }
 
--- a text behind a colon alone
-abbrev pub said : List ℕ → ReplyWords
-said = saying []
-
 -- words alone
 abbrev pub plain : List (List ℕ) → ReplyWords
 plain words = record { middle = words; last = None }

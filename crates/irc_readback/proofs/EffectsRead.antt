@@ -1,5 +1,5 @@
 -- The message of each effect is read as that effect.
-use Rattle.std.proofs.Common.{◌≡◌, ℕ, ◌≤◌, Bool, true, false, not, is_some, ◌&&◌, ◌||◌}
+use Rattle.std.proofs.Common.{◌≡◌, ℕ, ◌≤◌, Bool, true, false, is_some, ◌&&◌, ◌||◌}
 use Rattle.std.proofs.Common.{if◌then◌else◌, Option, Some, None, Ok, List, [], ◌∷◌, codes, length}
 use Rattle.std.proofs.Common.{refl, ◌∙◌, ap, le-leb}
 use Rattle.std.specs.List.{list_all}

@@ -1,5 +1,5 @@
 -- What a burst tells of users is all of it, and meets each of them.
-use Rattle.std.proofs.Common.{◌≡◌, ℕ, Bool, true, false, cond, List, [], ◌∷◌, map, refl, sym, ◌∙◌}
+use Rattle.std.proofs.Common.{◌≡◌, ℕ, Bool, true, false, cond, List, [], ◌∷◌, refl, sym, ◌∙◌}
 use Rattle.std.proofs.Common.{ap, Option, Some, None, option_map}
 use Rattle.std.proofs.lemmas.Bool.{and_parts}
 use Rattle.std.specs.Cmp.Lexicographic.{nat_list_cmp_total}
@@ -17,7 +17,7 @@ use Rattle.irc_users.specs.declared.user_change.UserChange.{UserChange}
 use Rattle.irc_users.specs.declared.user_change.UserChange.TheVariants.{Away}
 use Rattle.irc_users.specs.UserTable.{is_shown, with_change}
 use Rattle.irc_users.specs.ChangesTold.{as_introduced, changes_of, changed_by, changes_found}
-use Rattle.irc_users.specs.ChangesTold.{table_changed, all_changed, ToldWhole, ToldUnseen}
+use Rattle.irc_users.specs.ChangesTold.{table_changed, ToldWhole, ToldUnseen}
 use Rattle.irc_users.specs.ChangesTold.{ChangesMeetTheirUsers}
 
 away_back : (user : User) (o : Option (List ℕ)) → user.set.away ≡ o
