@@ -2,3 +2,4 @@ pub mod OneBehindAnother
 pub mod CrossingLists
 pub mod LinksInFlight
 pub mod NetworksRun
+pub mod FactsStay
