@@ -1,0 +1,4 @@
+pub mod Places
+pub mod Documents
+pub mod Edits
+pub mod Laws

@@ -1,0 +1,1 @@
+//! The laws of effects as edits.
