@@ -1,7 +1,7 @@
 -- What holds of effects as edits.
 use Rattle.std.specs.Prelude.{◌≡◌, ℕ, true, List}
 use Rattle.irc_names.specs.Fold.{key}
-use Rattle.irc_names.specs.Names.{IsNick}
+use Rattle.irc_names.specs.Names.{IsChannel, IsNick}
 use Rattle.irc_documents.specs.Lists.{all_done, AllMay}
 use Rattle.irc_effects.specs.declared.effect.Effect.{Effect}
 use Rattle.irc_effects.specs.After.{after, titled_by}
@@ -37,5 +37,5 @@ EffectsAreEdits = (names : List Nick) → HasAllNicks names → (room : Room) (e
 
 abbrev pub SpellingsAreEdits : Type 0
 SpellingsAreEdits = (names : List Nick) → HasAllNicks names → (room : Room) (name : List ℕ)
-    → IsWellFormed room → IsWithinLimits room
+    → IsChannel name → IsWellFormed room → IsWithinLimits room
     → Lead names (document room) (spelling_edits room name) (document (titled_by name room))
