@@ -6,3 +6,5 @@ pub mod LettersEdited
 pub mod EffectsLead
 pub mod ModesLead
 pub mod EffectsAreEdits
+pub mod OneRoom
+pub mod AllNicks
