@@ -3,7 +3,7 @@
 ghost use Rattle.irc_room_edits.specs.AllNicks.{AllNicksAreListed};
 ghost use Rattle.irc_room_edits.specs.Laws.{DocumentsAreSound, EffectsAreEdits};
 ghost use Rattle.irc_room_edits.specs.Laws.{SpellingsAreEdits};
-ghost use Rattle.irc_room_edits.specs.RestAlike.{RoomsRestAlike};
+ghost use Rattle.irc_room_edits.specs.RestAlike.{EffectsCanBeGiven, RoomsRestAlike};
 ghost use Rattle.irc_room_edits.specs.SameRooms.{DocumentsTellRooms};
 
 use irc_relay::laws_of_forests;
@@ -41,3 +41,8 @@ pub fn rooms_rest_alike()
 {
     laws_of_forests::the_way_is_a_walk();
 }
+
+/// What such a server is given may be any effect that can be done in its room.
+pub fn effects_can_be_given()
+    ensures { EffectsCanBeGiven }
+{}
