@@ -6,3 +6,4 @@ pub mod RenamesMeet
 pub mod TwoRenames
 pub mod MayStay
 pub mod RoomsGoWell
+pub mod AlikeCrossings

@@ -4,5 +4,6 @@ pub mod Documents
 pub mod Crossing
 pub mod EditedRooms
 pub mod Telling
+pub mod Alike
 pub mod Laws
 pub mod Lemmas
