@@ -5,12 +5,14 @@
 --   a.net   :al KICK #c bo :out    b.net   :bo PART #c :bye
 --   what is left of the PART at a.net is that bo goes, who is no member: it is alike to nothing, and
 --   so is what is left of it behind :bo JOIN #c, by which bo comes again
-use Rattle.std.specs.Prelude.{◌≡◌, true, false, Option, Some, None, List}
+use Rattle.std.specs.Prelude.{◌≡◌, true, false, Option, Some, None, List, [], ◌∷◌}
+use Rattle.irc_documents.specs.Lists.{AllMay, all_done, behind, through}
 use Rattle.irc_edited_rooms.specs.Writes.{Row, Writes}
 use Rattle.irc_edited_rooms.specs.Fates.{Fate, is_coming, untouched}
 use Rattle.irc_edited_rooms.specs.Documents.{ChannelName, Document, Edit, Nick, Update, edited, rename}
 use Rattle.irc_edited_rooms.specs.Documents.{update}
-use Rattle.irc_edited_rooms.specs.Crossing.{MayBeMade, crossed, lives_by}
+use Rattle.irc_edited_rooms.specs.Crossing.{MayBeMade, lives_by}
+use Rattle.irc_edited_rooms.specs.EditedRooms.{edited_rooms}
 
 module _ {Place : Type 0} where
   -- a fate that does nothing: of a row that is not there all do that do not bring it
@@ -31,8 +33,37 @@ module _ {Place : Type 0} (names : List Nick) where
     pub sets : (name : ChannelName) → lives_by names room one name ≡ true
         → one.set name ≡ other.set name
 
-  pub data AlikeEdits (room : Document Place) : Edit Place → Edit Place → Type 0 where
-    updates : {one other : Update Place} → AlikeUpdates room one other
-        → AlikeEdits room (update one) (update other)
-    renames : (old new : Nick) (writes : Writes Place)
-        → AlikeEdits room (rename old new writes) (rename old new writes)
+  -- one rename is alike to itself alone
+  abbrev pub AlikeEdits : Document Place → (one other : Edit Place) → Type 0
+  AlikeEdits room (update one) (update other) = AlikeUpdates room one other
+  AlikeEdits room (rename old new writes) other = rename old new writes ≡ other
+  AlikeEdits room (update one) (rename old new writes) = ⊥
+
+  -- each of one log to that of another, where they stand
+  abbrev pub AlikeLogs : Document Place → (one other : List (Edit Place)) → Type 0
+  AlikeLogs room [] [] = Unit
+  AlikeLogs room (one ∷ log) (other ∷ more) =
+      AlikeEdits room one other × AlikeLogs (edited names room one) log more
+  AlikeLogs room [] (other ∷ more) = ⊥
+  AlikeLogs room (one ∷ log) [] = ⊥
+
+-- ---- what holds of them
+
+-- What becomes of an edit behind a log, and of the log behind it, is alike for edits and logs that
+-- are: so an end may keep for each what is alike to it, or nothing for what does nothing.
+pub record StayAlike {Place : Type 0} (names : List Nick) (room : Document Place)
+    (theirs too : Edit Place) (log more : List (Edit Place)) : Type 0 where
+  pub through_log : AlikeEdits names (all_done (edited_rooms names) room log)
+      (through (edited_rooms names) room theirs log) (through (edited_rooms names) room too more)
+  pub log_behind : AlikeLogs names (edited names room theirs)
+      (behind (edited_rooms names) room log theirs) (behind (edited_rooms names) room more too)
+
+-- Edits that are alike lead to the same, and stay alike.
+pub record AlikeStayAlike (Place : Type 0) : Type 0 where
+  pub lead : (names : List Nick) (room : Document Place) (one other : Edit Place)
+      → AlikeEdits names room one other → edited names room one ≡ edited names room other
+  pub logs : (names : List Nick) (room : Document Place) (theirs too : Edit Place)
+      (log more : List (Edit Place)) → MayBeMade names room theirs → MayBeMade names room too
+      → AllMay (edited_rooms names) room log → AllMay (edited_rooms names) room more
+      → AlikeEdits names room theirs too → AlikeLogs names room log more
+      → StayAlike names room theirs too log more

@@ -7,3 +7,5 @@ pub mod TwoRenames
 pub mod MayStay
 pub mod RoomsGoWell
 pub mod AlikeCrossings
+pub mod AlikeEditsStay
+pub mod LogsStayAlike

@@ -1,5 +1,6 @@
 //! The laws of rooms that are edited, whatever places their rows have.
 
+ghost use Rattle.irc_edited_rooms.specs.Alike.{AlikeStayAlike};
 ghost use Rattle.irc_edited_rooms.specs.Laws.{EditsHaveDiamond, RoomsCanBeTold, RoomsGoWell};
 ghost use Rattle.irc_edited_rooms.specs.Laws.{RoomsStaySound};
 
@@ -26,4 +27,10 @@ pub fn rooms_stay_sound<Place>()
 /// Each sound document can be told at a new link.
 pub fn rooms_can_be_told<Place>()
     ensures { RoomsCanBeTold Place }
+{}
+
+/// Edits that are alike, but for what does nothing where they stand, lead to the same and stay alike
+/// whatever they cross; so do logs of them.
+pub fn alike_stay_alike<Place>()
+    ensures { AlikeStayAlike Place }
 {}

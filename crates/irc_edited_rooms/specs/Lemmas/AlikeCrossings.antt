@@ -87,7 +87,7 @@ module _ {Place : Type 0} where
 
   -- ---- one member, by what becomes of its user
 
-  not_coming : (fate : Fate Place) → (is_coming fate ≡ true → false ≡ true)
+  pub not_coming : (fate : Fate Place) → (is_coming fate ≡ true → false ≡ true)
       → is_coming fate ≡ false
   not_coming (stays v) never = refl
   not_coming goes never = refl
@@ -250,7 +250,7 @@ module _ {Place : Type 0} where
     members_lead one other alike name i nick = fates_lead (room.member name nick)
         (one.member name nick) (other.member name nick) (alike.members name nick) i
 
-    lives_alike : (one other : Update Place) → AlikeUpdates names room one other
+    pub lives_alike : (one other : Update Place) → AlikeUpdates names room one other
         → (name : ChannelName) → lives_by names room one name ≡ lives_by names room other name
     lives_alike one other alike name = ap (lives names) (members_lead one other alike name)
 
