@@ -7,11 +7,11 @@
 --   so is what is left of it behind :bo JOIN #c, by which bo comes again
 use Rattle.std.specs.Prelude.{◌≡◌, true, false, Option, Some, None, List, [], ◌∷◌}
 use Rattle.irc_documents.specs.Lists.{AllMay, all_done, behind, through}
-use Rattle.irc_edited_rooms.specs.Writes.{Row, Writes}
+use Rattle.irc_edited_rooms.specs.Writes.{Row}
 use Rattle.irc_edited_rooms.specs.Fates.{Fate, is_coming, untouched}
 use Rattle.irc_edited_rooms.specs.Documents.{ChannelName, Document, Edit, Nick, Update, edited, rename}
 use Rattle.irc_edited_rooms.specs.Documents.{update}
-use Rattle.irc_edited_rooms.specs.Crossing.{MayBeMade, lives_by}
+use Rattle.irc_edited_rooms.specs.Crossing.{MayBeMade, crossed, lives_by, nothing}
 use Rattle.irc_edited_rooms.specs.EditedRooms.{edited_rooms}
 
 module _ {Place : Type 0} where
@@ -67,3 +67,11 @@ pub record AlikeStayAlike (Place : Type 0) : Type 0 where
       → AllMay (edited_rooms names) room log → AllMay (edited_rooms names) room more
       → AlikeEdits names room theirs too → AlikeLogs names room log more
       → StayAlike names room theirs too log more
+  -- nothing behind any edit does nothing
+  pub nothing_stays : (names : List Nick) (room : Document Place) (ours : Edit Place)
+      → AlikeEdits names (edited names room ours) (crossed names room (update nothing) ours)
+      (update nothing)
+  -- and any edit behind nothing is what it was
+  pub stays_same : (names : List Nick) (room : Document Place) (theirs : Edit Place)
+      → MayBeMade names room theirs
+      → AlikeEdits names room (crossed names room theirs (update nothing)) theirs

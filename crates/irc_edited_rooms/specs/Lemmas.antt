@@ -9,3 +9,4 @@ pub mod RoomsGoWell
 pub mod AlikeCrossings
 pub mod AlikeEditsStay
 pub mod LogsStayAlike
+pub mod NothingCrosses

@@ -2,16 +2,15 @@
 use Rattle.std.proofs.Common.{◌≡◌, Bool, true, false, Option, Some, None, List}
 use Rattle.std.proofs.Common.{refl, sym, ap, subst, ◌∙◌, is_some, true≢false}
 use Rattle.std.proofs.Math.Bool.{false≢true}
-use Rattle.irc_names.specs.TableLaws.{same_fold, one_fold}
 use Rattle.irc_edited_rooms.specs.Alike.{AlikeFates, AlikeUpdates, IsIdle, equal, idle}
 use Rattle.irc_edited_rooms.specs.Writes.{Row, Writes, written}
-use Rattle.irc_edited_rooms.specs.Fates.{Fate, stays, goes, comes, untouched, is_going, is_coming}
+use Rattle.irc_edited_rooms.specs.Fates.{Fate, stays, goes, comes, is_coming}
 use Rattle.irc_edited_rooms.specs.Fates.{after_fate, both_go, fate_behind, is_one, member_behind}
 use Rattle.irc_edited_rooms.specs.Fates.{user_behind}
-use Rattle.irc_edited_rooms.specs.Documents.{ChannelName, Document, Nick, Update, IsSound, lives}
+use Rattle.irc_edited_rooms.specs.Documents.{ChannelName, Document, Nick, Update, lives}
 use Rattle.irc_edited_rooms.specs.Documents.{members_after, row_while, updated}
-use Rattle.irc_edited_rooms.specs.Crossing.{IsFitting, lives_by, member_left, members_behind}
-use Rattle.irc_edited_rooms.specs.Crossing.{set_left, update_behind, users_behind}
+use Rattle.irc_edited_rooms.specs.Crossing.{IsFitting, lives_by, member_left}
+use Rattle.irc_edited_rooms.specs.Crossing.{set_left, update_behind}
 use Rattle.irc_edited_rooms.specs.Lemmas.FatesMeet.{none_stays}
 
 module _ {Place : Type 0} where
@@ -26,7 +25,7 @@ module _ {Place : Type 0} where
       ap (λ fate. after_fate fate (Some row)) (is ∙ sym is_too)
 
   -- behind anything it does nothing still
-  idle_behind : (meeting : Writes Place → Writes Place → Fate Place) (row : Option (Row Place))
+  pub idle_behind : (meeting : Writes Place → Writes Place → Fate Place) (row : Option (Row Place))
       (theirs ours : Fate Place) → IsIdle row theirs
       → IsIdle (after_fate ours row) (fate_behind meeting (is_some row) theirs ours)
   idle_behind meeting None (stays v) (stays w) is = refl
@@ -244,7 +243,7 @@ module _ {Place : Type 0} where
   -- ---- a document
 
   module _ (names : List Nick) (room : Document Place) where
-    members_lead : (one other : Update Place) → AlikeUpdates names room one other
+    pub members_lead : (one other : Update Place) → AlikeUpdates names room one other
         → (name : ChannelName) → members_after (one.member name) (room.member name)
         ≡ members_after (other.member name) (room.member name)
     members_lead one other alike name i nick = fates_lead (room.member name nick)

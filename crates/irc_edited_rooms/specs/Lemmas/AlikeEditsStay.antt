@@ -1,15 +1,15 @@
 -- Edits that are alike: also where one user is renamed; and what nothing makes of others.
 use Rattle.std.proofs.Common.{◌≡◌, Bool, true, false, Option, Some, None, List}
-use Rattle.std.proofs.Common.{refl, sym, ap, subst, ◌∙◌, is_some, true≢false, option_map}
+use Rattle.std.proofs.Common.{refl, sym, ap, subst, ◌∙◌, is_some, true≢false}
 use Rattle.std.proofs.Math.Bool.{false≢true}
 use Rattle.irc_names.specs.TableLaws.{same_fold}
 use Rattle.irc_edited_rooms.specs.Alike.{AlikeEdits, AlikeFates, AlikeUpdates, equal, idle}
-use Rattle.irc_edited_rooms.specs.Writes.{Row, Writes, written}
-use Rattle.irc_edited_rooms.specs.Fates.{Fate, stays, goes, comes, untouched, is_coming, after_fate}
+use Rattle.irc_edited_rooms.specs.Writes.{Row, Writes}
+use Rattle.irc_edited_rooms.specs.Fates.{Fate, untouched, is_coming, after_fate}
 use Rattle.irc_edited_rooms.specs.Documents.{ChannelName, Document, Edit, Nick, Update, edited}
-use Rattle.irc_edited_rooms.specs.Documents.{is_name, lives, members_after, pick, rename, renamed}
-use Rattle.irc_edited_rooms.specs.Documents.{swapped, update, updated, written_at}
-use Rattle.irc_edited_rooms.specs.Crossing.{IsFitting, MayBeMade, MayBeRenamed, crossed, lives_by}
+use Rattle.irc_edited_rooms.specs.Documents.{members_after, pick, rename, renamed}
+use Rattle.irc_edited_rooms.specs.Documents.{swapped, update, written_at}
+use Rattle.irc_edited_rooms.specs.Crossing.{MayBeMade, MayBeRenamed, crossed, lives_by}
 use Rattle.irc_edited_rooms.specs.Crossing.{member_followed, rename_left, update_followed}
 use Rattle.irc_edited_rooms.specs.Crossing.{user_followed}
 use Rattle.irc_edited_rooms.specs.Lemmas.AlikeCrossings.{ours_stay_alike, theirs_stay_alike}

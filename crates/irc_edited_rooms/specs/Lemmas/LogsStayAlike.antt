@@ -1,6 +1,6 @@
 -- Logs that are alike stay alike.
-use Rattle.std.proofs.Common.{◌≡◌, Bool, true, false, Option, Some, None, List, [], ◌∷◌}
-use Rattle.std.proofs.Common.{refl, sym, ap, subst, ◌∙◌}
+use Rattle.std.proofs.Common.{Option, List, [], ◌∷◌}
+use Rattle.std.proofs.Common.{sym, subst, ◌∙◌}
 use Rattle.irc_documents.specs.Lists.{AllMay, all_done, behind, through}
 use Rattle.irc_edited_rooms.specs.Alike.{AlikeEdits, AlikeFates, AlikeLogs, AlikeStayAlike}
 use Rattle.irc_edited_rooms.specs.Alike.{AlikeUpdates, IsIdle, StayAlike, equal, idle}
@@ -11,6 +11,7 @@ use Rattle.irc_edited_rooms.specs.Crossing.{MayBeMade, crossed}
 use Rattle.irc_edited_rooms.specs.EditedRooms.{edited_rooms}
 use Rattle.irc_edited_rooms.specs.Lemmas.AlikeCrossings.{lives_alike}
 use Rattle.irc_edited_rooms.specs.Lemmas.AlikeEditsStay.{alike_lead, ours_stay, theirs_stay}
+use Rattle.irc_edited_rooms.specs.Lemmas.NothingCrosses.{nothing_stays, stays_same}
 use Rattle.irc_edited_rooms.specs.Lemmas.RoomsGoWell.{rooms_have_diamond}
 
 module _ {Place : Type 0} where
@@ -99,4 +100,6 @@ pub alike_stay_alike : {Place : Type 0} → AlikeStayAlike Place
 alike_stay_alike = record {
   lead = λ names room one other alike. alike_lead names room one other alike;
   logs = λ names. logs_stay_alike names;
+  nothing_stays = λ names room ours. nothing_stays names room ours;
+  stays_same = λ names room theirs may. stays_same names room theirs may;
 }
