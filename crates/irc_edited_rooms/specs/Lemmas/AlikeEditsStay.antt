@@ -27,7 +27,7 @@ module _ {Place : Type 0} where
   one_there (Some row) one other (idle is is_too) there = is ∙ sym is_too
 
   -- and at a nickname that is free they bring somebody both, or neither
-  comes_both : (row : Option (Row Place)) (one other : Fate Place) → AlikeFates row one other
+  pub comes_both : (row : Option (Row Place)) (one other : Fate Place) → AlikeFates row one other
       → row ≡ None → is_coming one ≡ is_coming other
   comes_both row one other (equal is) free = ap is_coming is
   comes_both None one other (idle is is_too) free = is ∙ sym is_too

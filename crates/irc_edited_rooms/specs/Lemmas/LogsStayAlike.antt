@@ -15,7 +15,7 @@ use Rattle.irc_edited_rooms.specs.Lemmas.NothingCrosses.{nothing_stays, stays_sa
 use Rattle.irc_edited_rooms.specs.Lemmas.RoomsGoWell.{rooms_have_diamond}
 
 module _ {Place : Type 0} where
-  fates_join : (row : Option (Row Place)) (one other third : Fate Place)
+  pub fates_join : (row : Option (Row Place)) (one other third : Fate Place)
       → AlikeFates row one other → AlikeFates row other third → AlikeFates row one third
   fates_join row one other third (equal p) (equal q) = equal (p ∙ q)
   fates_join row one other third (equal p) (idle a b) =
@@ -37,7 +37,7 @@ module _ {Place : Type 0} where
           ∙ b.sets name (sym (lives_alike names room one other a name) ∙ there);
     }
 
-    edits_join : (room : Document Place) (one other third : Edit Place)
+    pub edits_join : (room : Document Place) (one other third : Edit Place)
         → AlikeEdits names room one other → AlikeEdits names room other third
         → AlikeEdits names room one third
     edits_join room (update one) (update other) (update third) a b =
@@ -48,7 +48,7 @@ module _ {Place : Type 0} where
         subst (λ it. AlikeEdits names room it third) (sym a) b
 
     -- one edit behind another, where both are alike to others
-    crossed_alike : (room : Document Place) (theirs too ours more : Edit Place)
+    pub crossed_alike : (room : Document Place) (theirs too ours more : Edit Place)
         → MayBeMade names room theirs → MayBeMade names room too → MayBeMade names room ours
         → MayBeMade names room more → AlikeEdits names room theirs too
         → AlikeEdits names room ours more

@@ -26,7 +26,7 @@ none_comes Place false is = false≢true is
 module _ {Place : Type 0} where
   -- ---- who comes, goes or stays behind another fate
 
-  user_comes : (is_there : Bool) (theirs ours : Fate Place)
+  pub user_comes : (is_there : Bool) (theirs ours : Fate Place)
       → is_coming (user_behind is_there theirs ours) ≡ true
       → (is_coming theirs ≡ true) × (is_coming ours ≡ false)
   user_comes is_there (stays v) (stays w) is = absurd (false≢true is)
@@ -41,7 +41,7 @@ module _ {Place : Type 0} where
   user_comes is_there (comes v) goes is = (refl, refl)
   user_comes is_there (comes v) (comes w) is = absurd (false≢true is)
 
-  member_comes : (is_there : Bool) (theirs ours : Fate Place)
+  pub member_comes : (is_there : Bool) (theirs ours : Fate Place)
       → is_coming (member_behind is_there theirs ours) ≡ true → is_coming theirs ≡ true
   member_comes is_there (stays v) (stays w) is = is
   member_comes is_there (stays v) goes is = is
@@ -53,12 +53,12 @@ module _ {Place : Type 0} where
   member_comes false goes (comes w) is = is
   member_comes is_there (comes v) ours is = refl
 
-  record Left (theirs_left ours left : Fate Place) : Type 0 where
-    they_stay : is_going theirs_left ≡ false
-    ours_stay : is_going ours ≡ false
-    comes_left : is_coming left ≡ true
+  pub record Left (theirs_left ours left : Fate Place) : Type 0 where
+    pub they_stay : is_going theirs_left ≡ false
+    pub ours_stay : is_going ours ≡ false
+    pub comes_left : is_coming left ≡ true
 
-  left_comes : (theirs_left ours left : Fate Place)
+  pub left_comes : (theirs_left ours left : Fate Place)
       → is_coming (member_left theirs_left ours left) ≡ true → Left theirs_left ours left
   left_comes goes ours left is = absurd (false≢true is)
   left_comes (stays v) goes left is = absurd (false≢true is)
@@ -72,7 +72,7 @@ module _ {Place : Type 0} where
   left_comes (comes v) (comes w) left is =
       record { they_stay = refl; ours_stay = refl; comes_left = is }
 
-  stays_there : (fate : Fate Place) (row : Option (Row Place)) → is_going fate ≡ false
+  pub stays_there : (fate : Fate Place) (row : Option (Row Place)) → is_going fate ≡ false
       → is_some row ≡ true → is_some (after_fate fate row) ≡ true
   stays_there (stays v) row other there = there_by_map (written v) row ∙ there
   stays_there goes row other there = absurd (true≢false other)
@@ -168,7 +168,7 @@ module _ {Place : Type 0} where
 
   -- ---- who goes
 
-  going_fits : (names : List Nick) (room : Document Place) (one other : Nick)
+  pub going_fits : (names : List Nick) (room : Document Place) (one other : Nick)
       → IsSound names room → IsFitting names room (both_going one other)
   going_fits names room one other sound = record {
     sound = sound;

@@ -15,13 +15,13 @@ use Rattle.irc_edited_rooms.specs.Lemmas.AlikeCrossings.{fates_lead, idle_behind
 use Rattle.irc_edited_rooms.specs.Lemmas.FatesMeet.{untouched_stays}
 
 module _ {Place : Type 0} where
-  still_idle : (row : Option (Row Place)) → IsIdle row untouched
+  pub still_idle : (row : Option (Row Place)) → IsIdle row untouched
   still_idle None = refl
   still_idle (Some row) = refl
 
   -- ---- nothing behind an edit
 
-  left_idle : (row : Option (Row Place)) (user : Option (Row Place)) (ours left : Fate Place)
+  pub left_idle : (row : Option (Row Place)) (user : Option (Row Place)) (ours left : Fate Place)
       → IsIdle row left → IsIdle row (member_left (user_behind (is_some user) untouched ours) ours left)
   left_idle row user (stays w) left is = is
   left_idle row user goes left is = still_idle row
