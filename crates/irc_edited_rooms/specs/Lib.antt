@@ -6,3 +6,4 @@ pub mod EditedRooms
 pub mod Telling
 pub mod Laws
 pub mod Lemmas
+pub mod Examples
