@@ -57,12 +57,15 @@ module _ {Place : Type 0} where
       if is_going theirs_left then goes else (if is_going ours then untouched else left)
 
   -- What is set in a channel is left where it is greater. Of a channel that theirs leaves without
-  -- a member nothing is; one that ours does so comes back with all that is set there.
-  abbrev pub set_left : (lives_theirs lives_ours : Bool) → Row Place → (theirs ours : Writes Place)
-      → Writes Place
-  set_left false lives_ours row theirs ours = no_writes
-  set_left true false row theirs ours = all_of (written theirs row)
-  set_left true true row theirs ours = writes_behind theirs ours
+  -- a member nothing is; one that was there, and ours leaves so, comes back with all that is set.
+  abbrev pub set_left : (was_there lives_theirs lives_ours : Bool) → Row Place
+      → (theirs ours : Writes Place) → Writes Place
+  set_left true false lives_ours row theirs ours = no_writes
+  set_left false false lives_ours row theirs ours = no_writes
+  set_left true true true row theirs ours = writes_behind theirs ours
+  set_left false true true row theirs ours = writes_behind theirs ours
+  set_left true true false row theirs ours = all_of (written theirs row)
+  set_left false true false row theirs ours = theirs
 
   abbrev pub users_behind : Document Place → (theirs ours : Update Place) → Nick → Fate Place
   users_behind room theirs ours nick =
@@ -83,8 +86,8 @@ module _ {Place : Type 0} (names : List Nick) where
   update_behind room theirs ours = record {
     user = users_behind room theirs ours;
     member = members_behind room theirs ours;
-    set = λ name. set_left (lives_by room theirs name) (lives_by room ours name)
-        (room.channel name) (theirs.set name) (ours.set name);
+    set = λ name. set_left (lives names (room.member name)) (lives_by room theirs name)
+        (lives_by room ours name) (room.channel name) (theirs.set name) (ours.set name);
   }
 
 -- ---- an update behind a nickname for another

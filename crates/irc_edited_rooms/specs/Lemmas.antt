@@ -6,3 +6,7 @@ pub mod RenamesMeet
 pub mod TwoRenames
 pub mod MayStay
 pub mod RoomsGoWell
+pub mod AlikeCrossings
+pub mod AlikeEditsStay
+pub mod LogsStayAlike
+pub mod NothingCrosses

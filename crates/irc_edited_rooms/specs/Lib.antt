@@ -4,6 +4,7 @@ pub mod Documents
 pub mod Crossing
 pub mod EditedRooms
 pub mod Telling
+pub mod Alike
 pub mod Laws
 pub mod Lemmas
 pub mod Examples

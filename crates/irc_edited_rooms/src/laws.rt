@@ -1,6 +1,7 @@
 //! The laws of rooms that are edited, whatever places their rows have, and examples that are
 //! computed.
 
+ghost use Rattle.irc_edited_rooms.specs.Alike.{AlikeStayAlike};
 ghost use Rattle.irc_edited_rooms.specs.Examples.{JoinCrosses, KickCrosses, NextBegins};
 ghost use Rattle.irc_edited_rooms.specs.Examples.{NicknamesCross, ThreeRestAlike, TopicsCross};
 ghost use Rattle.irc_edited_rooms.specs.Examples.{WrongOnesDiffer};
@@ -30,6 +31,12 @@ pub fn rooms_stay_sound<Place>()
 /// Each sound document can be told at a new link.
 pub fn rooms_can_be_told<Place>()
     ensures { RoomsCanBeTold Place }
+{}
+
+/// Edits that are alike, but for what does nothing where they stand, lead to the same and stay alike
+/// whatever they cross; so do logs of them.
+pub fn alike_stay_alike<Place>()
+    ensures { AlikeStayAlike Place }
 {}
 
 /// A topic one is set at a.net, and a topic two at b.net: both have two.

@@ -88,7 +88,7 @@ more_live names few more each there =
 
 -- ---- nicknames that change places
 
-picked_name : (names : List Nick) (b c : Bool) (old new nick : Nick) → is_name names old ≡ true
+pub picked_name : (names : List Nick) (b c : Bool) (old new nick : Nick) → is_name names old ≡ true
     → is_name names new ≡ true → is_name names nick ≡ true
     → is_name names (pick b c old new nick) ≡ true
 picked_name names true c old new nick has_old has_new has = has_old

@@ -2,7 +2,7 @@
 use Rattle.std.proofs.Common.{◌≡◌, Bool, true, false, Option, Some, None, List}
 use Rattle.std.proofs.Common.{refl, sym, ap, ◌∙◌, is_some, true≢false}
 use Rattle.std.proofs.Math.Bool.{false≢true}
-use Rattle.irc_edited_rooms.specs.Writes.{Row, Writes, written}
+use Rattle.irc_edited_rooms.specs.Writes.{Row, Writes, blank_row, written}
 use Rattle.irc_edited_rooms.specs.Fates.{Fate, stays, goes, comes, is_going, is_coming}
 use Rattle.irc_edited_rooms.specs.Fates.{after_fate, both_go, is_one, user_behind, member_behind}
 use Rattle.irc_edited_rooms.specs.Documents.{Nick, ChannelName, Document, Update, lives, row_while}
@@ -104,17 +104,21 @@ module _ {Place : Type 0} where
 
   -- ---- one channel
 
-  rows_meet : (is_there theirs_there ours_there : Bool) (row : Row Place)
-      (theirs ours : Writes Place)
-      → row_while is_there (written (set_left theirs_there ours_there row theirs ours)
+  rows_meet : (is_there was_there theirs_there ours_there : Bool) (row : Row Place)
+      (theirs ours : Writes Place) → (was_there ≡ false → row ≡ blank_row)
+      → row_while is_there (written (set_left was_there theirs_there ours_there row theirs ours)
       (row_while ours_there (written ours row)))
-      ≡ row_while is_there (written (set_left ours_there theirs_there row ours theirs)
+      ≡ row_while is_there (written (set_left was_there ours_there theirs_there row ours theirs)
       (row_while theirs_there (written theirs row)))
-  rows_meet false b c row theirs ours = refl
-  rows_meet true true true row theirs ours = writes_meet theirs ours row
-  rows_meet true true false row theirs ours = refl
-  rows_meet true false true row theirs ours = refl
-  rows_meet true false false row theirs ours = refl
+  rows_meet false a b c row theirs ours blank = refl
+  rows_meet true true true true row theirs ours blank = writes_meet theirs ours row
+  rows_meet true false true true row theirs ours blank = writes_meet theirs ours row
+  rows_meet true true true false row theirs ours blank = refl
+  rows_meet true false true false row theirs ours blank = ap (written theirs) (sym (blank refl))
+  rows_meet true true false true row theirs ours blank = refl
+  rows_meet true false false true row theirs ours blank = ap (written ours) (blank refl)
+  rows_meet true true false false row theirs ours blank = refl
+  rows_meet true false false false row theirs ours blank = refl
 
   -- ---- a document
 
@@ -127,12 +131,13 @@ module _ {Place : Type 0} where
     user = λ nick. users nick i;
     member = λ name nick. members name nick i;
     channel = λ name. (ap (λ is_there. row_while is_there (written
-        (set_left (lives_by names room theirs name) (lives_by names room ours name)
-        (room.channel name) (theirs.set name) (ours.set name))
+        (set_left (lives names (room.member name)) (lives_by names room theirs name)
+        (lives_by names room ours name) (room.channel name) (theirs.set name) (ours.set name))
         (row_while (lives_by names room ours name) (written (ours.set name) (room.channel name)))))
         (λ j. lives names (λ nick. members name nick j))
-        ∙ rows_meet (lives names (λ nick. members name nick 1)) (lives_by names room theirs name)
-        (lives_by names room ours name) (room.channel name) (theirs.set name) (ours.set name)) i;
+        ∙ rows_meet (lives names (λ nick. members name nick 1)) (lives names (room.member name))
+        (lives_by names room theirs name) (lives_by names room ours name) (room.channel name)
+        (theirs.set name) (ours.set name) (our_may.sound.blank name)) i;
   }
     where
       users : (nick : Nick) → (updated names (updated names room ours)
