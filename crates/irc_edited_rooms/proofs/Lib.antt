@@ -1,0 +1,2 @@
+pub mod EditsMayBeMade
+pub mod ComputedRooms

@@ -7,3 +7,4 @@ pub mod Telling
 pub mod Alike
 pub mod Laws
 pub mod Lemmas
+pub mod Examples
