@@ -1,11 +1,11 @@
 //! The laws of effects as edits.
 
 ghost use Rattle.irc_room_edits.specs.AllNicks.{AllNicksAreListed};
-ghost use Rattle.irc_room_edits.specs.Examples.{BansCross, BothMakeChannel, ChannelComesBack, JoinMakesChannel};
-ghost use Rattle.irc_room_edits.specs.Examples.{KeysCross, LeaversGo, LeavesCross, ModesAreSet};
-ghost use Rattle.irc_room_edits.specs.Examples.{NamesAreFollowed, PrivaciesCross, RenameIsSpelled};
-ghost use Rattle.irc_room_edits.specs.Examples.{SecondJoins, TextsAreSet, TopicsCross};
-ghost use Rattle.irc_room_edits.specs.Examples.{TwoToOneName};
+ghost use Rattle.irc_room_edits.specs.Examples.{BansCross, BothMakeChannel, ChannelComesBack};
+ghost use Rattle.irc_room_edits.specs.Examples.{JoinMakesChannel, KeysCross, LeaversGo, LeavesCross};
+ghost use Rattle.irc_room_edits.specs.Examples.{ModesAreSet, NamesAreFollowed, PrivaciesCross};
+ghost use Rattle.irc_room_edits.specs.Examples.{RenameIsSpelled, SecondJoins, TextsAreSet};
+ghost use Rattle.irc_room_edits.specs.Examples.{TopicsCross, TwoToOneName};
 ghost use Rattle.irc_room_edits.specs.Laws.{DocumentsAreSound, EffectsAreEdits};
 ghost use Rattle.irc_room_edits.specs.Laws.{SpellingsAreEdits};
 ghost use Rattle.irc_room_edits.specs.RestAlike.{EffectsCanBeGiven, RoomsRestAlike};
