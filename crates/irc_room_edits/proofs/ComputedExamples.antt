@@ -56,6 +56,8 @@ modes_are_set = record {
       refl refl;
   is_operator = makes two_in (changes_mode al (set letter.Operator (Some bo))) (flag operator bo)
       _ refl refl;
+  is_operator_no_more = makes two_operators (changes_mode al (clear letter.Operator (Some bo)))
+      (flag operator bo) _ refl refl;
   is_private = makes two_in (private_by al) (set_in privacy) _ refl refl;
   is_secret = makes (two_in ++ private_by al ∷ []) (secret_by al) (set_in privacy) _ refl refl;
   still_secret = makes (two_in ++ secret_by al ∷ []) (private_by al) (set_in privacy) _ refl refl;

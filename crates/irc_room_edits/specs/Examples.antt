@@ -137,6 +137,8 @@ pub record ModesAreSet : Type 0 where
   pub key_taken : Makes with_key (changes_mode al (clear letter.Key None)) (set_in channel_key) []
   pub is_operator : Makes two_in (changes_mode al (set letter.Operator (Some bo))) (flag operator bo)
       (Some (1 ∷ []))
+  pub is_operator_no_more : Makes two_operators (changes_mode al (clear letter.Operator (Some bo)))
+      (flag operator bo) (Some [])
   pub is_private : Makes two_in (private_by al) (set_in privacy) (1 ∷ [])
   pub is_secret : Makes (two_in ++ private_by al ∷ []) (secret_by al) (set_in privacy) (2 ∷ [])
   pub still_secret : Makes (two_in ++ secret_by al ∷ []) (private_by al) (set_in privacy) (2 ∷ [])
