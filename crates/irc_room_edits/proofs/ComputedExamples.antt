@@ -15,7 +15,7 @@ use Rattle.irc_room_edits.specs.Examples.{JoinMakesChannel, SecondJoins, TextsAr
 use Rattle.irc_room_edits.specs.Examples.{LeaversGo, RenameIsSpelled, TopicsCross, KeysCross}
 use Rattle.irc_room_edits.specs.Examples.{PrivaciesCross, BansCross, LeavesCross}
 use Rattle.irc_room_edits.specs.Examples.{NamesAreFollowed, TwoToOneName, ChannelComesBack}
-use Rattle.irc_room_edits.specs.Examples.{BothMakeChannel}
+use Rattle.irc_room_edits.specs.Examples.{BothMakeChannel, NoChangeIsWritten}
 use Rattle.irc_room_edits.specs.Places.{operator, voice, spelling, topic, privacy, channel_key, ban}
 use Rattle.irc_room_edits.proofs.ComputedEdits.{makes, agree}
 
@@ -108,6 +108,12 @@ keys_cross = agree with_key (changes_mode al (clear letter.Key None))
 pub privacies_cross : PrivaciesCross
 unfolding fold fold_table
 privacies_cross = agree two_operators (private_by al) (secret_by bo) (set_in privacy) _ refl refl
+
+pub no_change_is_written : NoChangeIsWritten
+unfolding fold fold_table
+no_change_is_written =
+    agree (two_operators ++ secret_by al ∷ []) (changes_mode al (clear letter.Private None))
+    (changes_mode bo (clear letter.Secret None)) (set_in privacy) _ refl refl
 
 pub bans_cross : BansCross
 unfolding fold fold_table is_ban_mask

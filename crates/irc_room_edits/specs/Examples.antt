@@ -195,6 +195,12 @@ KeysCross = Agree with_key (changes_mode al (clear letter.Key None))
 abbrev pub PrivaciesCross : Type 0
 PrivaciesCross = Agree two_operators (private_by al) (secret_by bo) (set_in privacy) (2 ∷ [])
 
+-- a.net   :al MODE #c -p          b.net   :bo MODE #c -s, where #c is s: -p writes s again
+abbrev pub NoChangeIsWritten : Type 0
+NoChangeIsWritten = Agree (two_operators ++ secret_by al ∷ [])
+    (changes_mode al (clear letter.Private None)) (changes_mode bo (clear letter.Secret None))
+    (set_in privacy) (2 ∷ [])
+
 -- a.net   :al MODE #c +b a[!*@*   b.net   :bo MODE #c +b A{!*@*
 abbrev pub BansCross : Type 0
 BansCross = Agree two_operators (ban_by al (codes "a[!*@*")) (ban_by bo (codes "A{!*@*"))

@@ -3,9 +3,9 @@
 ghost use Rattle.irc_room_edits.specs.AllNicks.{AllNicksAreListed};
 ghost use Rattle.irc_room_edits.specs.Examples.{BansCross, BothMakeChannel, ChannelComesBack};
 ghost use Rattle.irc_room_edits.specs.Examples.{JoinMakesChannel, KeysCross, LeaversGo, LeavesCross};
-ghost use Rattle.irc_room_edits.specs.Examples.{ModesAreSet, NamesAreFollowed, PrivaciesCross};
-ghost use Rattle.irc_room_edits.specs.Examples.{RenameIsSpelled, SecondJoins, TextsAreSet};
-ghost use Rattle.irc_room_edits.specs.Examples.{TopicsCross, TwoToOneName};
+ghost use Rattle.irc_room_edits.specs.Examples.{ModesAreSet, NamesAreFollowed, NoChangeIsWritten};
+ghost use Rattle.irc_room_edits.specs.Examples.{PrivaciesCross, RenameIsSpelled, SecondJoins};
+ghost use Rattle.irc_room_edits.specs.Examples.{TextsAreSet, TopicsCross, TwoToOneName};
 ghost use Rattle.irc_room_edits.specs.Laws.{DocumentsAreSound, EffectsAreEdits};
 ghost use Rattle.irc_room_edits.specs.Laws.{SpellingsAreEdits};
 ghost use Rattle.irc_room_edits.specs.RestAlike.{EffectsCanBeGiven, RoomsRestAlike};
@@ -95,6 +95,11 @@ pub fn keys_cross()
 /// Where p and s are set, s stays.
 pub fn privacies_cross()
     ensures { PrivaciesCross }
+{}
+
+/// What changes nothing writes what is there: s, for a `-p` beside a `-s`, and s stays.
+pub fn no_change_is_written()
+    ensures { NoChangeIsWritten }
 {}
 
 /// A ban that is set in two spellings stands once, in the greater one.
