@@ -1,0 +1,2 @@
+pub mod ComputedEdits
+pub mod ComputedExamples

@@ -5,4 +5,5 @@ pub mod Laws
 pub mod SameRooms
 pub mod AllNicks
 pub mod RestAlike
+pub mod Examples
 pub mod Lemmas
