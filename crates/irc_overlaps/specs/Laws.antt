@@ -1,0 +1,115 @@
+-- The laws of networks of layers. Each is the contract of a public function of this crate.
+use Rattle.std.specs.Prelude.{◌≡◌, ◌≢◌, ℕ, Option, Some, None, List, [], ◌∷◌, ◌++◌, ◌⊎◌, nat_eq}
+use Rattle.std.specs.Prelude.{if◌then◌else◌}
+use Rattle.std.specs.List.{filter_map}
+use Rattle.irc_batch.specs.Batches.{Sent, line_to, end_of, line_on, end_of_link}
+use Rattle.irc_relay.specs.Links.{Name, AreJoined}
+use Rattle.irc_server.specs.declared.event.Event.{Event}
+use Rattle.irc_layer.specs.Layers.{LayerView}
+use Rattle.irc_overlaps.specs.Networks.{Net, EndAt, end_at, Told, received, ended, Closing}
+use Rattle.irc_overlaps.specs.Rest.{IsEndQuiet, IsNew, IsQuietPart, IsSound}
+use Rattle.irc_overlaps.specs.Steps.{Happens, HasGiven, HasHandled, IsDelivered, Run, Step}
+
+-- ---- links
+
+-- Whatever happens, the links are a forest, and just those are linked that have the two ends of one.
+abbrev pub StepKeepsSound : Type 0
+StepKeepsSound = (step : Step) (old new : Net) → Happens step old new → IsSound old → IsSound new
+
+abbrev pub RunsAreSound : Type 0
+RunsAreSound = (steps : List Step) (old new : Net) → IsNew old → Run steps old new → IsSound new
+
+-- ---- what is done at a server
+
+-- all of these are of one server
+abbrev pub AreBy : Name → List Closing → Type 0
+AreBy s [] = Unit
+AreBy s (closing ∷ more) = (closing.server ≡ s) × AreBy s more
+
+-- some of one's own are behind those that were
+pub record HasClosed (s : Name) (old new : List Closing) : Type 0 where
+  pub more : List Closing
+  pub by_it : AreBy s more
+  pub new_is : new ≡ old ++ more
+
+-- lines are put behind those on their way; and none where the other end is not the server's
+pub record IsBehind (old new : List (List ℕ)) : Type 0 where
+  pub more : List (List ℕ)
+  pub new_is : new ≡ old ++ more
+
+-- Every other server is as it was, and so are its ends and what its clients were told; what was on
+-- its way to it still is, and something more only from this server.
+pub record LeavesOthers (s : Name) (old new : Net) : Type 0 where
+  pub layers : (x : Name) → x ≢ s → new.layer x ≡ old.layer x
+  pub told : (x : Name) (conn : ℕ) → x ≢ s → new.told x conn ≡ old.told x conn
+  pub others : (x : Name) (k : ℕ) → x ≢ s → new.other x k ≡ old.other x k
+  pub coming : (x : Name) (k : ℕ) → x ≢ s → IsBehind (old.coming x k) (new.coming x k)
+  pub elsewhere : (x : Name) (k : ℕ) → x ≢ s → ((n : ℕ) → old.other x k ≡ Some (end_at s n) → ⊥)
+      → new.coming x k ≡ old.coming x k
+  pub closings : HasClosed s old.closings new.closings
+
+-- what is on its way to an end is as it was, or the server has closed the end
+pub data IsLeft (s : Name) (n : ℕ) (lines : List (List ℕ)) (new : Net) : Type 0 where
+  is_there : new.coming s n ≡ lines → IsLeft s n lines new
+  is_closed : new.other s n ≡ None → IsLeft s n lines new
+
+-- A client's event is of its server alone, also where something is on its way.
+pub record IsOfOne (s : Name) (old new : Net) : Type 0 where
+  pub leaves : LeavesOthers s old new
+  pub own : (n : ℕ) → IsLeft s n (old.coming s n) new
+
+abbrev pub GivenIsOfOne : Type 0
+GivenIsOfOne =
+    (s : Name) (event : Event) (old new : Net) → IsSound old → HasGiven s event old new
+    → IsOfOne s old new
+
+-- A delivery is of one server, and takes the first line of one queue.
+pub record TakesFirst (s : Name) (n : ℕ) (old new : Net) : Type 0 where
+  pub line : List ℕ
+  pub more : List (List ℕ)
+  pub on_its_way : old.coming s n ≡ line ∷ more
+  pub first : IsLeft s n more new
+  pub own : (k : ℕ) → k ≢ n → IsLeft s k (old.coming s k) new
+  pub leaves : LeavesOthers s old new
+
+abbrev pub DeliveryTakesFirst : Type 0
+DeliveryTakesFirst =
+    (s : Name) (n : ℕ) (old new : Net) → IsSound old → IsDelivered s n old new
+    → TakesFirst s n old new
+
+-- ---- rest
+
+-- Where nothing is on its way no delivery can happen.
+abbrev pub NoneIsDelivered : Type 0
+NoneIsDelivered =
+    (s t : Name) (n : ℕ) (old new : Net) → IsQuietPart old s → AreJoined old.links s t
+    → IsDelivered t n old new → ⊥
+
+-- ---- what clients are told
+
+-- what of all that a server puts out is for one connection
+abbrev pub told_by : ℕ → Sent → Option Told
+told_by conn (line_to other line) = if nat_eq conn other then Some (received line) else None
+told_by conn (end_of other) = if nat_eq conn other then Some ended else None
+told_by conn (line_on n line) = None
+told_by conn (end_of_link n reason) = None
+
+-- a layer has handled these events, one after another
+pub data HasHandledAll : LayerView → List Event → List Sent → LayerView → Type 0 where
+  no_event : {layer : LayerView} → HasHandledAll layer [] [] layer
+  one_event : {old between new : LayerView} {event : Event} {events : List Event}
+      {first more outs : List Sent} → HasHandled old event first between
+      → HasHandledAll between events more new → outs ≡ first ++ more
+      → HasHandledAll old (event ∷ events) outs new
+
+-- A server is what its own events make of it, in order, and its clients are told just what it puts
+-- out for them by these, behind what they were told before.
+pub record GoesByItsOwn (s : Name) (old new : Net) : Type 0 where
+  pub events : List Event
+  pub outs : List Sent
+  pub handled : HasHandledAll (old.layer s) events outs (new.layer s)
+  pub told : (conn : ℕ) → new.told s conn ≡ old.told s conn ++ filter_map (told_by conn) outs
+
+abbrev pub EachGoesByItsOwn : Type 0
+EachGoesByItsOwn = (steps : List Step) (old new : Net) → Run steps old new → (s : Name)
+    → GoesByItsOwn s old new

@@ -1,0 +1,4 @@
+pub mod Networks
+pub mod Steps
+pub mod Rest
+pub mod Laws

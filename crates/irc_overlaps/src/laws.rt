@@ -1,0 +1,35 @@
+//! The laws of networks of layers to which anything is given at any time.
+ghost use Rattle.irc_overlaps.specs.Laws.{DeliveryTakesFirst, EachGoesByItsOwn, GivenIsOfOne};
+ghost use Rattle.irc_overlaps.specs.Laws.{NoneIsDelivered, RunsAreSound, StepKeepsSound};
+
+/// Each step keeps it so that the links are a forest, and that just those are linked that have the
+/// two ends of one link.
+pub fn step_keeps_sound()
+    ensures { StepKeepsSound }
+{}
+
+/// So it is, whatever happens, from a network that begins.
+pub fn runs_are_sound()
+    ensures { RunsAreSound }
+{}
+
+/// A client's event is of its server alone, whatever is on its way.
+pub fn given_is_of_one()
+    ensures { GivenIsOfOne }
+{}
+
+/// A delivery is of one server, and takes the first line of one queue.
+pub fn delivery_takes_first()
+    ensures { DeliveryTakesFirst }
+{}
+
+/// Where nothing is on its way no delivery can happen.
+pub fn none_is_delivered()
+    ensures { NoneIsDelivered }
+{}
+
+/// Each server is what its own events make of it, in order, and its clients are told just what it
+/// puts out for them by these, behind what they were told before.
+pub fn each_goes_by_its_own()
+    ensures { EachGoesByItsOwn }
+{}
