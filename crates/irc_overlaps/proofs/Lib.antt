@@ -4,3 +4,4 @@ pub mod SoundEnds
 pub mod SoundSteps
 pub mod OneServer
 pub mod OwnEvents
+pub mod LinesBehind

@@ -13,12 +13,13 @@ use Rattle.irc_relay.specs.Lemmas.TellingNames.{alike, unlike, tell, same_when}
 use Rattle.irc_relay.specs.Lemmas.TellingNames.{same_unless}
 use Rattle.irc_server.specs.declared.event.Event.{Event}
 use Rattle.irc_layer.specs.Layers.{LayerView}
-use Rattle.irc_overlaps.specs.Networks.{Net, EndAt, Told, received, ended, all_sent_out, closing}
+use Rattle.irc_overlaps.specs.Networks.{Net, EndAt, Told, received, ended, Closing, all_sent_out}
 use Rattle.irc_overlaps.specs.Networks.{far_end, sending, sent_out, telling, with_at, with_layer}
 use Rattle.irc_overlaps.specs.Steps.{Happens, HasGiven, HasHandled, IsDelivered, IsGiven, IsLost}
 use Rattle.irc_overlaps.specs.Steps.{IsMade, Run, Step, given, delivered, made, lost}
 use Rattle.irc_overlaps.specs.Steps.{no_step, one_step}
-use Rattle.irc_overlaps.specs.Laws.{EachGoesByItsOwn, GoesByItsOwn, HasHandledAll, told_by}
+use Rattle.irc_overlaps.specs.Laws.{EachGoesByItsOwn, GoesByItsOwn, HasHandledAll, closed_by}
+use Rattle.irc_overlaps.specs.Laws.{closes, told_by}
 use Rattle.irc_overlaps.specs.Laws.{no_event, one_event}
 use Rattle.irc_overlaps.proofs.AtEnds.{at_it, at_other, at_end, with_at-it, with_at-other}
 
@@ -50,6 +51,11 @@ sending_told : (far : Option EndAt) (line : List ℕ) (net : Net)
 sending_told None line net = refl
 sending_told (Some far) line net = refl
 
+sending_closings : (far : Option EndAt) (line : List ℕ) (net : Net)
+    → (sending far line net).closings ≡ net.closings
+sending_closings None line net = refl
+sending_closings (Some far) line net = refl
+
 sending_layer : (far : Option EndAt) (line : List ℕ) (net : Net)
     → (sending far line net).layer ≡ net.layer
 sending_layer None line net = refl
@@ -64,10 +70,10 @@ told_one s (line_on n line) net conn =
     ∙ sym (append-nil (net.told s conn))
 told_one s (end_of_link n reason) net conn = sym (append-nil (net.told s conn))
 
-in_front : (one : Option Told) (more : List Told)
+in_front : {X : Type 0} (one : Option X) (more : List X)
     → cons_option one [] ++ more ≡ cons_option one more
 in_front None more = refl
-in_front (Some told) more = refl
+in_front (Some x) more = refl
 
 told_all : (s : Name) (outs : List Sent) (net : Net) (conn : ℕ)
     → (all_sent_out s outs net).told s conn ≡ net.told s conn ++ filter_map (told_by conn) outs
@@ -95,6 +101,62 @@ all_elsewhere : (s x : Name) → x ≢ s → (outs : List Sent) (net : Net) (con
 all_elsewhere s x m [] net conn = refl
 all_elsewhere s x m (sent ∷ outs) net conn =
     all_elsewhere s x m outs (sent_out s sent net) conn ∙ told_elsewhere s x m sent net conn
+
+-- ---- what it closes
+
+closings_one : (s : Name) (sent : Sent) (net : Net)
+    → filter_map (closed_by s) (sent_out s sent net).closings
+    ≡ filter_map (closed_by s) net.closings ++ cons_option (closes sent) []
+closings_one s (line_to other line) net = sym (append-nil (filter_map (closed_by s) net.closings))
+closings_one s (end_of other) net = sym (append-nil (filter_map (closed_by s) net.closings))
+closings_one s (line_on n line) net =
+    ap (filter_map (closed_by s)) (sending_closings (far_end net s n) line net)
+    ∙ sym (append-nil (filter_map (closed_by s) net.closings))
+closings_one s (end_of_link n reason) net =
+    filter_map-append (closed_by s) net.closings (one ∷ [])
+    ∙ ap (λ b. filter_map (closed_by s) net.closings
+    ++ cons_option (if b then Some (n, reason) else None) []) (same_when s s refl)
+  where
+    one : Closing
+    one = record { server = s; link = n; far = net.other s n; reason = reason }
+
+closings_all : (s : Name) (outs : List Sent) (net : Net)
+    → filter_map (closed_by s) (all_sent_out s outs net).closings
+    ≡ filter_map (closed_by s) net.closings ++ filter_map closes outs
+closings_all s [] net = sym (append-nil (filter_map (closed_by s) net.closings))
+closings_all s (sent ∷ outs) net =
+    closings_all s outs (sent_out s sent net)
+    ∙ ap (λ v. v ++ filter_map closes outs) (closings_one s sent net)
+    ∙ append_assoc (filter_map (closed_by s) net.closings) (cons_option (closes sent) [])
+    (filter_map closes outs)
+    ∙ ap (λ v. filter_map (closed_by s) net.closings ++ v)
+    (in_front (closes sent) (filter_map closes outs))
+
+-- another closes nothing by it
+closings_other : (s x : Name) → x ≢ s → (sent : Sent) (net : Net)
+    → filter_map (closed_by x) (sent_out s sent net).closings
+    ≡ filter_map (closed_by x) net.closings
+closings_other s x m (line_to other line) net = refl
+closings_other s x m (end_of other) net = refl
+closings_other s x m (line_on n line) net =
+    ap (filter_map (closed_by x)) (sending_closings (far_end net s n) line net)
+closings_other s x m (end_of_link n reason) net =
+    filter_map-append (closed_by x) net.closings (one ∷ [])
+    ∙ ap (λ b. filter_map (closed_by x) net.closings
+    ++ cons_option (if b then Some (n, reason) else None) []) (same_unless s x (λ e. m (sym e)))
+    ∙ append-nil (filter_map (closed_by x) net.closings)
+  where
+    one : Closing
+    one = record { server = s; link = n; far = net.other s n; reason = reason }
+
+closings_elsewhere : (s x : Name) → x ≢ s → (outs : List Sent) (net : Net)
+    → filter_map (closed_by x) (all_sent_out s outs net).closings
+    ≡ filter_map (closed_by x) net.closings
+closings_elsewhere s x m [] net = refl
+closings_elsewhere s x m (sent ∷ outs) net =
+    closings_elsewhere s x m outs (sent_out s sent net) ∙ closings_other s x m sent net
+
+-- ---- its layer
 
 one_layer : (s : Name) (sent : Sent) (net : Net) → (sent_out s sent net).layer ≡ net.layer
 one_layer s (line_to other line) net = refl
@@ -127,15 +189,23 @@ own_both x old between new a b = record {
       ∙ append_assoc (old.told x conn) (filter_map (told_by conn) a.outs)
       (filter_map (told_by conn) b.outs)
       ∙ ap (λ v. old.told x conn ++ v) (sym (filter_map-append (told_by conn) a.outs b.outs));
+  closings = b.closings ∙ ap (λ v. v ++ filter_map closes b.outs) a.closings
+      ∙ append_assoc (filter_map (closed_by x) old.closings) (filter_map closes a.outs)
+      (filter_map closes b.outs)
+      ∙ ap (λ v. filter_map (closed_by x) old.closings ++ v)
+      (sym (filter_map-append closes a.outs b.outs));
 }
 
 own_none : (x : Name) (old new : Net) → new.layer x ≡ old.layer x
-    → ((conn : ℕ) → new.told x conn ≡ old.told x conn) → GoesByItsOwn x old new
-own_none x old new layer told = record {
+    → ((conn : ℕ) → new.told x conn ≡ old.told x conn)
+    → filter_map (closed_by x) new.closings ≡ filter_map (closed_by x) old.closings
+    → GoesByItsOwn x old new
+own_none x old new layer told closings = record {
   events = [];
   outs = [];
   handled = subst (λ v. HasHandledAll (old.layer x) [] [] v) (sym layer) no_event;
   told = λ conn. told conn ∙ sym (append-nil (old.told x conn));
+  closings = closings ∙ sym (append-nil (filter_map (closed_by x) old.closings));
 }
 
 -- ---- the steps
@@ -157,12 +227,16 @@ module _ (s : Name) (event : Event) (old new : Net) (g : IsGiven s event old new
         (sym (layer_is s ∙ ap (λ b. if b then g.layer else old.layer s) (same_when s s refl)))
         g.handled) no_event (sym (append-nil g.outs));
     told = λ conn. ap (λ (net : Net). net.told s conn) g.new_is ∙ told_all s g.outs taken conn;
+    closings = ap (λ (net : Net). filter_map (closed_by s) net.closings) g.new_is
+        ∙ closings_all s g.outs taken;
   }
 
   own_elsewhere : (x : Name) → x ≢ s → GoesByItsOwn x old new
   own_elsewhere x m = own_none x old new
       (layer_is x ∙ ap (λ b. if b then g.layer else old.layer x) (same_unless x s m))
       (λ conn. ap (λ (net : Net). net.told x conn) g.new_is ∙ all_elsewhere s x m g.outs taken conn)
+      (ap (λ (net : Net). filter_map (closed_by x) net.closings) g.new_is
+      ∙ closings_elsewhere s x m g.outs taken)
 
   given_own : (x : Name) → GoesByItsOwn x old new
   given_own x = elim (tell x s) [
@@ -172,24 +246,25 @@ module _ (s : Name) (event : Event) (old new : Net) (g : IsGiven s event old new
 
 -- what changes no layer and tells nobody
 own_from : (x : Name) (old between new : Net) → between.layer x ≡ old.layer x
-    → ((conn : ℕ) → between.told x conn ≡ old.told x conn) → GoesByItsOwn x between new
-    → GoesByItsOwn x old new
-own_from x old between new layer told rest =
-    own_both x old between new (own_none x old between layer told) rest
+    → ((conn : ℕ) → between.told x conn ≡ old.told x conn) → between.closings ≡ old.closings
+    → GoesByItsOwn x between new → GoesByItsOwn x old new
+own_from x old between new layer told closings rest =
+    own_both x old between new
+    (own_none x old between layer told (ap (filter_map (closed_by x)) closings)) rest
 
 step_own : (step : Step) (old new : Net) → Happens step old new → (x : Name)
     → GoesByItsOwn x old new
 step_own (given s event) old new d x = given_own s event old new d.is_given x
 step_own (delivered s n) old new d x =
-    own_from x old _ new refl (λ conn. refl) (given_own s _ _ new d.is_given x)
-step_own (made s n t m) old new d x = own_from x old _ new refl (λ conn. refl)
+    own_from x old _ new refl (λ conn. refl) refl (given_own s _ _ new d.is_given x)
+step_own (made s n t m) old new d x = own_from x old _ new refl (λ conn. refl) refl
     (own_both x _ d.between new (given_own s _ _ d.between d.near_given x)
     (given_own t _ d.between new d.far_given x))
 step_own (lost s n) old new d x =
-    own_from x old _ new refl (λ conn. refl) (given_own s _ _ new d.is_given x)
+    own_from x old _ new refl (λ conn. refl) refl (given_own s _ _ new d.is_given x)
 
 pub each_goes_by_its_own : EachGoesByItsOwn
-each_goes_by_its_own [] old new no_step x = own_none x old new refl (λ conn. refl)
+each_goes_by_its_own [] old new no_step x = own_none x old new refl (λ conn. refl) refl
 each_goes_by_its_own (step ∷ steps) old new (one_step {between} h rest) x =
     own_both x old between new (step_own step old between h x)
     (each_goes_by_its_own steps between new rest x)

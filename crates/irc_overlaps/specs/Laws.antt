@@ -2,13 +2,15 @@
 use Rattle.std.specs.Prelude.{◌≡◌, ◌≢◌, ℕ, Option, Some, None, List, [], ◌∷◌, ◌++◌, ◌⊎◌, nat_eq}
 use Rattle.std.specs.Prelude.{if◌then◌else◌}
 use Rattle.std.specs.List.{filter_map}
+use Rattle.irc_batch.specs.declared.close_reason.CloseReason.{CloseReason}
 use Rattle.irc_batch.specs.Batches.{Sent, line_to, end_of, line_on, end_of_link}
-use Rattle.irc_relay.specs.Links.{Name, AreJoined}
+use Rattle.irc_relay.specs.Links.{Name, same, AreJoined}
 use Rattle.irc_server.specs.declared.event.Event.{Event}
 use Rattle.irc_layer.specs.Layers.{LayerView}
-use Rattle.irc_overlaps.specs.Networks.{Net, EndAt, end_at, Told, received, ended, Closing}
+use Rattle.irc_overlaps.specs.Networks.{Net, EndAt, end_at, AreOneLink, Told, received, ended}
+use Rattle.irc_overlaps.specs.Networks.{Closing}
 use Rattle.irc_overlaps.specs.Rest.{IsEndQuiet, IsNew, IsQuietPart, IsSound}
-use Rattle.irc_overlaps.specs.Steps.{Happens, HasGiven, HasHandled, IsDelivered, Run, Step}
+use Rattle.irc_overlaps.specs.Steps.{Happens, HasGiven, HasHandled, IsDelivered, IsGiven, Run, Step}
 
 -- ---- links
 
@@ -77,6 +79,23 @@ DeliveryTakesFirst =
     (s : Name) (n : ℕ) (old new : Net) → IsSound old → IsDelivered s n old new
     → TakesFirst s n old new
 
+-- what is put out on a link in front of its end, of all that a server puts out
+abbrev pub lines_on : ℕ → List Sent → List (List ℕ)
+lines_on n [] = []
+lines_on n (line_on k line ∷ outs) =
+    if nat_eq n k then line ∷ lines_on n outs else lines_on n outs
+lines_on n (end_of_link k reason ∷ outs) = if nat_eq n k then [] else lines_on n outs
+lines_on n (line_to conn line ∷ outs) = lines_on n outs
+lines_on n (end_of conn ∷ outs) = lines_on n outs
+
+-- By whatever a server is given, all that it puts out on a link that is whole goes behind what was
+-- on its way to the other end, in order, and nothing else does.
+abbrev pub LinesGoBehind : Type 0
+LinesGoBehind =
+    (s t : Name) (n m : ℕ) (event : Event) (old new : Net) → IsSound old
+    → AreOneLink old.other s n t m → (given : IsGiven s event old new)
+    → new.coming t m ≡ old.coming t m ++ lines_on n given.outs
+
 -- ---- rest
 
 -- Where nothing is on its way no delivery can happen.
@@ -85,7 +104,7 @@ NoneIsDelivered =
     (s t : Name) (n : ℕ) (old new : Net) → IsQuietPart old s → AreJoined old.links s t
     → IsDelivered t n old new → ⊥
 
--- ---- what clients are told
+-- ---- what clients are told, and links that are closed
 
 -- what of all that a server puts out is for one connection
 abbrev pub told_by : ℕ → Sent → Option Told
@@ -93,6 +112,16 @@ told_by conn (line_to other line) = if nat_eq conn other then Some (received lin
 told_by conn (end_of other) = if nat_eq conn other then Some ended else None
 told_by conn (line_on n line) = None
 told_by conn (end_of_link n reason) = None
+
+-- .. and which ends of links are closed, and why; the same of one server's closings
+abbrev pub closes : Sent → Option (ℕ × CloseReason)
+closes (end_of_link n reason) = Some (n, reason)
+closes (line_to conn line) = None
+closes (end_of conn) = None
+closes (line_on n line) = None
+
+abbrev pub closed_by : Name → Closing → Option (ℕ × CloseReason)
+closed_by s closing = if same closing.server s then Some (closing.link, closing.reason) else None
 
 -- a layer has handled these events, one after another
 pub data HasHandledAll : LayerView → List Event → List Sent → LayerView → Type 0 where
@@ -102,13 +131,16 @@ pub data HasHandledAll : LayerView → List Event → List Sent → LayerView �
       → HasHandledAll between events more new → outs ≡ first ++ more
       → HasHandledAll old (event ∷ events) outs new
 
--- A server is what its own events make of it, in order, and its clients are told just what it puts
--- out for them by these, behind what they were told before.
+-- A server is what its own events make of it, in order. Its clients are told just what it puts out
+-- for them by these, behind what they were told before, and it closes just those links of which it
+-- puts out the end.
 pub record GoesByItsOwn (s : Name) (old new : Net) : Type 0 where
   pub events : List Event
   pub outs : List Sent
   pub handled : HasHandledAll (old.layer s) events outs (new.layer s)
   pub told : (conn : ℕ) → new.told s conn ≡ old.told s conn ++ filter_map (told_by conn) outs
+  pub closings : filter_map (closed_by s) new.closings
+      ≡ filter_map (closed_by s) old.closings ++ filter_map closes outs
 
 abbrev pub EachGoesByItsOwn : Type 0
 EachGoesByItsOwn = (steps : List Step) (old new : Net) → Run steps old new → (s : Name)

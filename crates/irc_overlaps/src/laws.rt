@@ -1,6 +1,7 @@
 //! The laws of networks of layers to which anything is given at any time.
 ghost use Rattle.irc_overlaps.specs.Laws.{DeliveryTakesFirst, EachGoesByItsOwn, GivenIsOfOne};
-ghost use Rattle.irc_overlaps.specs.Laws.{NoneIsDelivered, RunsAreSound, StepKeepsSound};
+ghost use Rattle.irc_overlaps.specs.Laws.{LinesGoBehind, NoneIsDelivered, RunsAreSound};
+ghost use Rattle.irc_overlaps.specs.Laws.{StepKeepsSound};
 
 /// Each step keeps it so that the links are a forest, and that just those are linked that have the
 /// two ends of one link.
@@ -23,13 +24,20 @@ pub fn delivery_takes_first()
     ensures { DeliveryTakesFirst }
 {}
 
+/// What a server puts out on a link that is whole goes behind what was on its way to the other end,
+/// all of it and in order.
+pub fn lines_go_behind()
+    ensures { LinesGoBehind }
+{}
+
 /// Where nothing is on its way no delivery can happen.
 pub fn none_is_delivered()
     ensures { NoneIsDelivered }
 {}
 
-/// Each server is what its own events make of it, in order, and its clients are told just what it
-/// puts out for them by these, behind what they were told before.
+/// Each server is what its own events make of it, in order; its clients are told just what it puts
+/// out for them by these, behind what they were told before; and it closes just those links of
+/// which it puts out the end.
 pub fn each_goes_by_its_own()
     ensures { EachGoesByItsOwn }
 {}
