@@ -94,7 +94,7 @@ reaching_back net s n far e (Some end) f = elim (at_end end.server end.link s n)
       ∙ ap (λ b. if b then Some far else None) b)
       (λ t m one. let w = one_end (net.other s n) far.server far.link t m e one.forth in
       let v = one_end (net.other far.server far.link) end.server end.link s n f
-          (ap (λ v. net.other v far.link) w.0 ∙ ap (net.other t) w.1 ∙ one.back) in
+      (ap (λ v. net.other v far.link) w.0 ∙ ap (net.other t) w.1 ∙ one.back) in
       o (sym v.0) (sym v.1))
 ]
 

@@ -102,7 +102,7 @@ module _ (net : Net) (sound : IsSound net) (s : Name) (n : ℕ) where
         let was = gone_one x k y l one in
         let here = renamed net.other s x k k y l e refl was in
         let there = turned net.other t l s k (renamed net.other t y l l s k f refl
-            (turned net.other s k y l here)) in
+        (turned net.other s k y l here)) in
         (gone_forth x k y l one.forth).1 e (sound.one s t k l n m there whole)
 
     without_whole : AreSound left gone (with_at s n [] net.coming)
@@ -110,14 +110,14 @@ module _ (net : Net) (sound : IsSound net) (s : Name) (n : ℕ) where
       forest = (taken_out net.links s t sound.forest are_linked).forest;
       numbers = λ x y h.
           let have = sound.numbers x y (left_linked net.links s t x y h) in record {
-        near = have.near;
-        far = have.far;
-        are_one = kept_one x have.near y have.far
-            (not_near x y have.near have.far h have.are_one)
-            (not_near y x have.far have.near (linked_back left x y h)
-            (turned net.other x have.near y have.far have.are_one))
-            have.are_one;
-      };
+            near = have.near;
+            far = have.far;
+            are_one = kept_one x have.near y have.far
+                (not_near x y have.near have.far h have.are_one)
+                (not_near y x have.far have.near (linked_back left x y h)
+                (turned net.other x have.near y have.far have.are_one))
+                have.are_one;
+          };
       linked = λ x y k l one. others_linked net.links s t x y (is_gone x y k l one)
           (λ e f. is_gone y x l k (turned gone x k y l one) f e)
           (sound.linked x y k l (gone_one x k y l one));
@@ -142,15 +142,15 @@ pub sending_sound : (net : Net) → IsSound net → (s : Name) (n : ℕ) (line :
     → IsSound (sending (far_end net s n) line net)
 sending_sound net sound s n line = elim (reaching net s n) [
   | reaches t m e one ↦ subst (λ far. IsSound (sending far line net)) (sym e) (record {
-      forest = sound.forest;
-      numbers = sound.numbers;
-      linked = sound.linked;
-      one = sound.one;
-      none_coming = λ x k f. with_at-other t m (net.coming t m ++ line ∷ []) net.coming x k
-          (λ g h. no_end (net.other x k) s n f
-          (ap (λ v. net.other v k) g ∙ ap (net.other t) h ∙ one.back))
-          ∙ sound.none_coming x k f;
-    })
+    forest = sound.forest;
+    numbers = sound.numbers;
+    linked = sound.linked;
+    one = sound.one;
+    none_coming = λ x k f. with_at-other t m (net.coming t m ++ line ∷ []) net.coming x k
+        (λ g h. no_end (net.other x k) s n f
+        (ap (λ v. net.other v k) g ∙ ap (net.other t) h ∙ one.back))
+        ∙ sound.none_coming x k f;
+  })
   | reaches_none e none ↦ subst (λ far. IsSound (sending far line net)) (sym e) sound
 ]
 
@@ -165,7 +165,7 @@ fewer_sound net sound s n line more e = record {
   none_coming = λ x k f. elim (at_end s n x k) [
     | at_it _ g h ↦
         let empty = ap (λ v. net.coming v n) (sym g) ∙ ap (net.coming x) (sym h)
-            ∙ sound.none_coming x k f in
+        ∙ sound.none_coming x k f in
         let never = sym e ∙ empty in cc
     | at_other _ o ↦ with_at-other s n more net.coming x k o ∙ sound.none_coming x k f
   ];

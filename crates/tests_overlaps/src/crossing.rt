@@ -11,6 +11,10 @@ al :al!u@h TOPIC #c :one
 bo :bo!u@h TOPIC #c :two
 topic-a one
 topic-b two
+to-b
+topic-b two
+to-a
+topic two
 rest
 topic two
 al :bo!u@h TOPIC #c :two";
@@ -18,8 +22,10 @@ al :bo!u@h TOPIC #c :two";
 static TOPICS_OTHER_WAY: &str = "\
 b TOPIC #c :two
 a TOPIC #c :one
+to-a
+topic two
 to-b
-topic-b two
+topic two
 rest
 topic two
 al :al!u@h TOPIC #c :one
@@ -38,9 +44,26 @@ al :al!u@h TOPIC #c :one
 bo :bo!u@h TOPIC #c :two
 bo :al!u@h TOPIC #c :one";
 
+/// The link is lost before either line is delivered, and made again: the greater stays as well.
+static TOPICS_LOST: &str = "\
+a TOPIC #c :one
+b TOPIC #c :two
+cut
+topic-a one
+topic-b two
+al :al!u@h TOPIC #c :one
+al :bo!u@h QUIT :a.net b.net
+bo :bo!u@h TOPIC #c :two
+bo :al!u@h QUIT :b.net a.net
+link
+rest
+topic two
+forget";
+
 #[test]
 fn topics_that_cross_are_one_at_rest(rt: HostRuntime) {
     assert!(rt; text_holds(&rt, rt.alloc(), TOPICS));
     assert!(rt; text_holds(&rt, rt.alloc(), TOPICS_OTHER_WAY));
     assert!(rt; text_holds(&rt, rt.alloc(), TOPICS_IN_TURN));
+    assert!(rt; text_holds(&rt, rt.alloc(), TOPICS_LOST));
 }

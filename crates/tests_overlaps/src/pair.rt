@@ -2,9 +2,11 @@
 //! say it line by line. al is client 1 of a.net, bo client 1 of b.net, and both are in #c.
 //!
 //! - `a LINE`, `b LINE` is a line of the client of a.net, or of b.net.
-//! - `to-a`, `to-b` delivers the oldest line that is on its way there; `rest` all, until none is.
-//! - `coming-a LINE`, `coming-b LINE` is the oldest line that is on its way there.
-//! - `al LINE`, `bo LINE` is the next line that this client has received.
+//! - `to-a`, `to-b` delivers all lines that are on their way there; `rest` all, until none is.
+//! - `cut` is the loss of the link, with what is on its way, and `link` a new one, by which a.net
+//!   calls.
+//! - `al LINE`, `bo LINE` is the next line that this client has received; `forget` leaves those aside
+//!   that both have received so far.
 //! - `topic TEXT` is the topic of #c at both; `topic-a TEXT`, `topic-b TEXT` at one of them.
 //!
 //! In the end nothing is on its way, neither has closed the link, and both clients have received no
@@ -104,7 +106,12 @@ fn takes(here: &mut Side, there: &mut Side, event: &Event, out: &mut Batch) -> b
 }
 
 fn says(here: &mut Side, there: &mut Side, text: &str, out: &mut Batch) -> bool {
-    takes(here, there, &Event::Line(CONN, line_of(text.as_bytes())), out)
+    takes(
+        here,
+        there,
+        &Event::Line(CONN, line_of(text.as_bytes())),
+        out,
+    )
 }
 
 /// Whether a line is on its way, and is taken.
@@ -113,6 +120,15 @@ fn delivers(here: &mut Side, there: &mut Side, out: &mut Batch) -> bool {
         Some(line) => takes(here, there, &Event::LinkLine(LINK, line), out),
         None => false,
     }
+}
+
+/// All lines that are on their way to a server are delivered; whether it takes each.
+fn delivers_all(here: &mut Side, there: &mut Side, out: &mut Batch) -> bool {
+    let mut all = true;
+    for _ in 0..here.coming.len() {
+        all &= delivers(here, there, out);
+    }
+    all
 }
 
 /// Lines are delivered until none is on its way; whether that is so.
@@ -157,12 +173,33 @@ fn client_comes(here: &mut Side, there: &mut Side, lines: &str, out: &mut Batch)
     all
 }
 
+/// Whether a link begins, by which a.net calls.
+fn links(near: &mut Side, far: &mut Side, out: &mut Batch) -> bool {
+    let called = ServerName::read(b"b.net");
+    takes(near, far, &Event::LinkUp(LINK, called), out)
+        && takes(far, near, &Event::LinkUp(LINK, None), out)
+}
+
+/// Whether the link is lost at both ends.
+fn cuts(near: &mut Side, far: &mut Side, out: &mut Batch) -> bool {
+    let both = takes(near, far, &Event::LinkDown(LINK), out)
+        && takes(far, near, &Event::LinkDown(LINK), out);
+    near.coming.clear();
+    far.coming.clear();
+    both
+}
+
 fn begins(near: &mut Side, far: &mut Side, out: &mut Batch) -> bool {
     client_comes(near, far, "NICK al\nUSER u 0 * :Al\nJOIN #c", out)
         && client_comes(far, near, "NICK bo\nUSER u 0 * :Bo\nJOIN #c", out)
-        && takes(near, far, &Event::LinkUp(LINK, ServerName::read(b"b.net")), out)
-        && takes(far, near, &Event::LinkUp(LINK, None), out)
+        && links(near, far, out)
         && rests(near, far, out)
+}
+
+fn forgets(near: &mut Side, far: &mut Side) -> bool {
+    near.received.clear();
+    far.received.clear();
+    true
 }
 
 /// Whether what a line says is so.
@@ -172,11 +209,12 @@ fn line_holds(near: &mut Side, far: &mut Side, line: &str, out: &mut Batch) -> b
         "" => true,
         "a" => says(near, far, words, out),
         "b" => says(far, near, words, out),
-        "to-a" => delivers(near, far, out),
-        "to-b" => delivers(far, near, out),
+        "to-a" => delivers_all(near, far, out),
+        "to-b" => delivers_all(far, near, out),
         "rest" => rests(near, far, out),
-        "coming-a" => is_line(near.coming.front(), words),
-        "coming-b" => is_line(far.coming.front(), words),
+        "cut" => cuts(near, far, out),
+        "link" => links(near, far, out),
+        "forget" => forgets(near, far),
         "al" => receives(near, words),
         "bo" => receives(far, words),
         "topic-a" => has_topic(near, words),
@@ -191,9 +229,7 @@ fn ends_so(side: &Side) -> bool {
 }
 
 fn lines_hold(near: &mut Side, far: &mut Side, lines: &str, out: &mut Batch) -> bool {
-    let mut all = begins(near, far, out);
-    near.received.clear();
-    far.received.clear();
+    let mut all = begins(near, far, out) && forgets(near, far);
     for line in lines.lines() {
         all &= line_holds(near, far, line, out);
     }
