@@ -11,6 +11,7 @@ use Rattle.irc_overlaps.specs.Networks.{sending, sent_out, with_at, with_layer, 
 use Rattle.irc_overlaps.specs.Laws.{LinesGoBehind, lines_on}
 use Rattle.irc_overlaps.proofs.AtEnds.{with_at-it, with_at-other, one_end, no_end, Reaching}
 use Rattle.irc_overlaps.proofs.AtEnds.{reaches, reaches_none, reaching}
+use Rattle.irc_overlaps.proofs.PutOut.{sending_other}
 use Rattle.irc_overlaps.proofs.SoundEnds.{far_apart}
 
 module _ (s t : Name) (n m : ℕ) (two : s ≢ t) where
@@ -29,11 +30,6 @@ module _ (s t : Name) (n m : ℕ) (two : s ≢ t) where
       (ap (λ w. net.other w m) f ∙ ap (net.other v) g ∙ one.back)).1)
   sending_elsewhere net faces k line never (reaches_none e _) =
       ap (λ far. (sending far line net).coming t m) e
-
-  sending_other : (far : Option EndAt) (line : List ℕ) (net : Net)
-      → (sending far line net).other ≡ net.other
-  sending_other None line net = refl
-  sending_other (Some far) line net = refl
 
   still_faces : (net : Net) → Faces net → (sent : Sent) → Faces (sent_out s sent net)
   still_faces net faces (line_to conn line) = faces

@@ -22,6 +22,7 @@ use Rattle.irc_overlaps.specs.Laws.{EachGoesByItsOwn, GoesByItsOwn, HasHandledAl
 use Rattle.irc_overlaps.specs.Laws.{closes, told_by}
 use Rattle.irc_overlaps.specs.Laws.{no_event, one_event}
 use Rattle.irc_overlaps.proofs.AtEnds.{at_it, at_other, at_end, with_at-it, with_at-other}
+use Rattle.irc_overlaps.proofs.PutOut.{all_layers, sending_closings, sending_told}
 
 -- ---- what it puts out for its clients
 
@@ -44,22 +45,6 @@ telling_told s other one net conn = elim (at_end s other s conn) [
       ∙ ap (λ b. net.told s conn ++ cons_option (if b then Some one else None) [])
       (sym (is_other conn other (λ f. o refl f)))
 ]
-
--- what is sent on a link tells nobody
-sending_told : (far : Option EndAt) (line : List ℕ) (net : Net)
-    → (sending far line net).told ≡ net.told
-sending_told None line net = refl
-sending_told (Some far) line net = refl
-
-sending_closings : (far : Option EndAt) (line : List ℕ) (net : Net)
-    → (sending far line net).closings ≡ net.closings
-sending_closings None line net = refl
-sending_closings (Some far) line net = refl
-
-sending_layer : (far : Option EndAt) (line : List ℕ) (net : Net)
-    → (sending far line net).layer ≡ net.layer
-sending_layer None line net = refl
-sending_layer (Some far) line net = refl
 
 told_one : (s : Name) (sent : Sent) (net : Net) (conn : ℕ)
     → (sent_out s sent net).told s conn ≡ net.told s conn ++ cons_option (told_by conn sent) []
@@ -155,18 +140,6 @@ closings_elsewhere : (s x : Name) → x ≢ s → (outs : List Sent) (net : Net)
 closings_elsewhere s x m [] net = refl
 closings_elsewhere s x m (sent ∷ outs) net =
     closings_elsewhere s x m outs (sent_out s sent net) ∙ closings_other s x m sent net
-
--- ---- its layer
-
-one_layer : (s : Name) (sent : Sent) (net : Net) → (sent_out s sent net).layer ≡ net.layer
-one_layer s (line_to other line) net = refl
-one_layer s (end_of other) net = refl
-one_layer s (line_on n line) net = sending_layer (far_end net s n) line net
-one_layer s (end_of_link n reason) net = refl
-
-all_layers : (s : Name) (outs : List Sent) (net : Net) → (all_sent_out s outs net).layer ≡ net.layer
-all_layers s [] net = refl
-all_layers s (sent ∷ outs) net = all_layers s outs (sent_out s sent net) ∙ one_layer s sent net
 
 -- ---- events in turn
 

@@ -9,7 +9,7 @@ use Rattle.irc_server.specs.declared.event.Event.{Event}
 use Rattle.irc_layer.specs.Layers.{LayerView}
 use Rattle.irc_overlaps.specs.Networks.{Net, EndAt, end_at, AreOneLink, Told, received, ended}
 use Rattle.irc_overlaps.specs.Networks.{Closing}
-use Rattle.irc_overlaps.specs.Rest.{IsEndQuiet, IsNew, IsQuietPart, IsSound}
+use Rattle.irc_overlaps.specs.Rest.{HaveTheirEnds, IsNew, IsQuietPart, IsSound}
 use Rattle.irc_overlaps.specs.Steps.{Happens, HasGiven, HasHandled, IsDelivered, IsGiven, Run, Step}
 
 -- ---- links
@@ -20,6 +20,16 @@ StepKeepsSound = (step : Step) (old new : Net) → Happens step old new → IsSo
 
 abbrev pub RunsAreSound : Type 0
 RunsAreSound = (steps : List Step) (old new : Net) → IsNew old → Run steps old new → IsSound new
+
+-- .. and each layer has just the ends that its server has in the network, so that each line that is
+-- on its way is one that the layer hears.
+abbrev pub StepKeepsEnds : Type 0
+StepKeepsEnds =
+    (step : Step) (old new : Net) → Happens step old new → HaveTheirEnds old → HaveTheirEnds new
+
+abbrev pub RunsHaveTheirEnds : Type 0
+RunsHaveTheirEnds =
+    (steps : List Step) (old new : Net) → IsNew old → Run steps old new → HaveTheirEnds new
 
 -- ---- what is done at a server
 

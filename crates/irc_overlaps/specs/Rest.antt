@@ -3,7 +3,7 @@
 -- a.net and b.net are linked, at a.net by 3 and at b.net by 4:
 --   no line is on its way to 3 of a.net nor to 4 of b.net    nothing is on its way
 --   a.net has closed 3, and b.net has not been told          something is: that the link is lost
-use Rattle.std.specs.Prelude.{◌≡◌, ℕ, Option, Some, None, List, []}
+use Rattle.std.specs.Prelude.{◌≡◌, ℕ, is_some, Option, Some, None, List, []}
 use Rattle.std.specs.FinMap.{empty}
 use Rattle.irc_relay.specs.Links.{Name, AreJoined, AreLinked, IsForest, Link}
 use Rattle.irc_room.specs.Laws.{no_room}
@@ -70,3 +70,8 @@ pub record AreSound (links : List Link) (other : Name → ℕ → Option EndAt)
 
 abbrev pub IsSound : Net → Type 0
 IsSound net = AreSound net.links net.other net.coming
+
+-- The ends that are there are just those that the layers have.
+abbrev pub HaveTheirEnds : Net → Type 0
+HaveTheirEnds net =
+    (s : Name) (n : ℕ) → is_some ((net.layer s).ends n) ≡ is_some (net.other s n)

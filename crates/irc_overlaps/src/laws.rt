@@ -1,7 +1,7 @@
 //! The laws of networks of layers to which anything is given at any time.
 ghost use Rattle.irc_overlaps.specs.Laws.{DeliveryTakesFirst, EachGoesByItsOwn, GivenIsOfOne};
 ghost use Rattle.irc_overlaps.specs.Laws.{LinesGoBehind, NoneIsDelivered, RunsAreSound};
-ghost use Rattle.irc_overlaps.specs.Laws.{StepKeepsSound};
+ghost use Rattle.irc_overlaps.specs.Laws.{RunsHaveTheirEnds, StepKeepsEnds, StepKeepsSound};
 
 /// Each step keeps it so that the links are a forest, and that just those are linked that have the
 /// two ends of one link.
@@ -12,6 +12,16 @@ pub fn step_keeps_sound()
 /// So it is, whatever happens, from a network that begins.
 pub fn runs_are_sound()
     ensures { RunsAreSound }
+{}
+
+/// Each step keeps it so that the ends of the network are just those that the layers have.
+pub fn step_keeps_ends()
+    ensures { StepKeepsEnds }
+{}
+
+/// So it is, whatever happens, from a network that begins.
+pub fn runs_have_their_ends()
+    ensures { RunsHaveTheirEnds }
 {}
 
 /// A client's event is of its server alone, whatever is on its way.
