@@ -76,7 +76,7 @@ line_of ended = None
 abbrev pub lines_received : Net → Name → ℕ → List (List ℕ)
 lines_received net s conn = filter_map line_of (net.told s conn)
 
--- one of two is a server's end or connection of a number, x k; the other is s n
+-- whether an end or a connection, by its server x and its number k there, is the one s n
 abbrev pub is_at : Name → ℕ → Name → ℕ → Bool
 is_at s n x k = same x s && nat_eq k n
 
