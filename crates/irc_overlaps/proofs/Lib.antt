@@ -8,3 +8,4 @@ pub mod OwnEvents
 pub mod LinesBehind
 pub mod EndsInStep
 pub mod LayersEnds
+pub mod AtAnyTime

@@ -1,16 +1,20 @@
 -- The laws of networks of layers. Each is the contract of a public function of this crate.
-use Rattle.std.specs.Prelude.{◌≡◌, ◌≢◌, ℕ, Option, Some, None, List, [], ◌∷◌, ◌++◌, ◌⊎◌, nat_eq}
-use Rattle.std.specs.Prelude.{if◌then◌else◌}
+use Rattle.std.specs.Prelude.{◌≡◌, ◌≢◌, ℕ, true, is_some, Option, Some, None, List, [], ◌∷◌, ◌++◌}
+use Rattle.std.specs.Prelude.{nat_eq, if◌then◌else◌}
 use Rattle.std.specs.List.{filter_map}
 use Rattle.irc_batch.specs.declared.close_reason.CloseReason.{CloseReason}
 use Rattle.irc_batch.specs.Batches.{Sent, line_to, end_of, line_on, end_of_link}
 use Rattle.irc_relay.specs.Links.{Name, same, AreJoined}
 use Rattle.irc_server.specs.declared.event.Event.{Event}
+use Rattle.irc_server.specs.declared.event.Event.TheVariants.{LinkDown}
+use Rattle.irc_server.specs.Served.{fault_of}
+use Rattle.irc_stage.specs.View.{View}
 use Rattle.irc_layer.specs.Layers.{LayerView}
 use Rattle.irc_overlaps.specs.Networks.{Net, EndAt, end_at, AreOneLink, Told, received, ended}
 use Rattle.irc_overlaps.specs.Networks.{Closing}
 use Rattle.irc_overlaps.specs.Rest.{HaveTheirEnds, IsNew, IsQuietPart, IsSound}
-use Rattle.irc_overlaps.specs.Steps.{Happens, HasGiven, HasHandled, IsDelivered, IsGiven, Run, Step}
+use Rattle.irc_overlaps.specs.Steps.{Happens, HasGiven, HasHandled, IsDelivered, IsGiven, IsLost}
+use Rattle.irc_overlaps.specs.Steps.{Run, Step, is_of_client}
 
 -- ---- links
 
@@ -30,6 +34,28 @@ StepKeepsEnds =
 abbrev pub RunsHaveTheirEnds : Type 0
 RunsHaveTheirEnds =
     (steps : List Step) (old new : Net) → IsNew old → Run steps old new → HaveTheirEnds new
+
+-- ---- at any time
+
+-- Whatever a client does that its server does not refuse can happen, whatever is on its way; and so
+-- an end can be lost that a server has.
+pub record CanBeGiven (s : Name) (event : Event) (old : Net) : Type 0 where
+  pub new : Net
+  pub given : HasGiven s event old new
+
+pub record CanBeLost (s : Name) (n : ℕ) (old : Net) : Type 0 where
+  pub new : Net
+  pub lost : IsLost s n old new
+
+abbrev pub GivenAtAnyTime : Type 0
+GivenAtAnyTime =
+    (s : Name) (event : Event) (view : View) (old : Net) → (old.layer s).server ≡ Some view
+    → is_of_client event ≡ true → fault_of view event ≡ None → CanBeGiven s event old
+
+abbrev pub LostAtAnyTime : Type 0
+LostAtAnyTime =
+    (s : Name) (n : ℕ) (view : View) (old : Net) → (old.layer s).server ≡ Some view
+    → is_some (old.other s n) ≡ true → fault_of view (LinkDown n) ≡ None → CanBeLost s n old
 
 -- ---- what is done at a server
 

@@ -1,6 +1,7 @@
 //! The laws of networks of layers to which anything is given at any time.
-ghost use Rattle.irc_overlaps.specs.Laws.{DeliveryTakesFirst, EachGoesByItsOwn, GivenIsOfOne};
-ghost use Rattle.irc_overlaps.specs.Laws.{LinesGoBehind, NoneIsDelivered, RunsAreSound};
+ghost use Rattle.irc_overlaps.specs.Laws.{DeliveryTakesFirst, EachGoesByItsOwn, GivenAtAnyTime};
+ghost use Rattle.irc_overlaps.specs.Laws.{GivenIsOfOne, LinesGoBehind, LostAtAnyTime};
+ghost use Rattle.irc_overlaps.specs.Laws.{NoneIsDelivered, RunsAreSound};
 ghost use Rattle.irc_overlaps.specs.Laws.{RunsHaveTheirEnds, StepKeepsEnds, StepKeepsSound};
 
 /// Each step keeps it so that the links are a forest, and that just those are linked that have the
@@ -22,6 +23,16 @@ pub fn step_keeps_ends()
 /// So it is, whatever happens, from a network that begins.
 pub fn runs_have_their_ends()
     ensures { RunsHaveTheirEnds }
+{}
+
+/// Whatever a client does that its server does not refuse can happen, whatever is on its way.
+pub fn given_at_any_time()
+    ensures { GivenAtAnyTime }
+{}
+
+/// An end can be lost that a server has, whatever is on its way.
+pub fn lost_at_any_time()
+    ensures { LostAtAnyTime }
 {}
 
 /// A client's event is of its server alone, whatever is on its way.
