@@ -9,3 +9,4 @@ pub mod LinesBehind
 pub mod EndsInStep
 pub mod LayersEnds
 pub mod AtAnyTime
+pub mod ComputedRun

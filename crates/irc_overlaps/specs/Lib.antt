@@ -2,3 +2,4 @@ pub mod Networks
 pub mod Steps
 pub mod Rest
 pub mod Laws
+pub mod Examples

@@ -1,4 +1,5 @@
 //! The laws of networks of layers to which anything is given at any time.
+ghost use Rattle.irc_overlaps.specs.Examples.{CallIsClosed, CallIsOnItsWay};
 ghost use Rattle.irc_overlaps.specs.Laws.{DeliveryTakesFirst, EachGoesByItsOwn, GivenAtAnyTime};
 ghost use Rattle.irc_overlaps.specs.Laws.{GivenIsOfOne, LinesGoBehind, LostAtAnyTime};
 ghost use Rattle.irc_overlaps.specs.Laws.{NoneIsDelivered, RunsAreSound};
@@ -61,4 +62,16 @@ pub fn none_is_delivered()
 /// which it puts out the end.
 pub fn each_goes_by_its_own()
     ensures { EachGoesByItsOwn }
+{}
+
+/// a.net calls b.net, and before its lines have come a client connects there: both lines are on
+/// their way, and nothing is on its way back.
+pub fn call_is_on_its_way()
+    ensures { CallIsOnItsWay }
+{}
+
+/// a.net calls x.net, which is no peer of it, and closes the link: that is kept with its reason, and
+/// x.net has its end until it is told.
+pub fn call_is_closed()
+    ensures { CallIsClosed }
 {}
