@@ -51,7 +51,8 @@ pub one_end : (other : Option EndAt) (s : Name) (n : ℕ) (t : Name) (m : ℕ)
     → other ≡ Some (end_at s n) → other ≡ Some (end_at t m) → (s ≡ t) × (n ≡ m)
 one_end other s n t m e f = (ap (server_in s) (sym e ∙ f), ap (link_in n) (sym e ∙ f))
 
-pub no_end : (other : Option EndAt) (s : Name) (n : ℕ) → other ≡ None → other ≡ Some (end_at s n) → ⊥
+pub no_end : (other : Option EndAt) (s : Name) (n : ℕ) → other ≡ None → other ≡ Some (end_at s n)
+    → ⊥
 no_end other s n e f = none-some (end_at s n) (sym e ∙ f)
 
 pub turned : (other : Name → ℕ → Option EndAt) (s : Name) (n : ℕ) (t : Name) (m : ℕ)

@@ -1,5 +1,5 @@
--- By whatever a layer hears, the ends that it has then are those that it had, but for those of which
--- it has put out that they are closed.
+-- By whatever a layer hears, the ends that it has then are those that it had, but for those whose
+-- end it has put out.
 use Rattle.std.proofs.Common.{◌≡◌, ℕ, Bool, true, false, not, ◌&&◌, ◌||◌, is_some, Option, Some}
 use Rattle.std.proofs.Common.{None, Ok, List, [], ◌∷◌, ◌++◌, append-nil, map, nat_eq, if◌then◌else◌}
 use Rattle.std.proofs.Common.{refl, sym, ap, subst, ◌∙◌}
@@ -246,7 +246,8 @@ module _ (link : ℕ) where
       → InStep old new
   gives begins line old new g =
       at_last old _ new (in_turn old g.between _
-      (line_or_not g.is_taken (by_line link begins) (record { items = line }) old g.between g.passes)
+      (line_or_not g.is_taken (by_line link begins) (record { items = line }) old g.between
+      g.passes)
       (changed link _ g.between)) g.new_is
 
   is_set : (line : List ℕ) (old new : State) → Sets link line old new → InStep old new

@@ -33,7 +33,8 @@ FollowsEnds old event outs new = (n : ℕ) → is_some (new.ends n)
     ≡ (is_some (ends_followed event old.plain old.ends n) && not (is_link_ended n outs))
 
 by_passing : (old new : LayerView) (event : Event) (outs : List Sent)
-    → Passes by_itself event (record { layer = old; outs = [] }) (record { layer = new; outs = outs })
+    → Passes by_itself event (record { layer = old; outs = [] })
+    (record { layer = new; outs = outs })
     → FollowsEnds old event outs new
 by_passing old new event outs p n =
     ap (λ (ends : Ends). is_some (ends n)) p.ends_are
@@ -45,7 +46,8 @@ by_hearing : (old new : LayerView) (event : Event) (outs : List Sent) (link : �
     → event ≡ LinkLine link (record { items = line })
     → InStep (record { layer = old; outs = [] }) (record { layer = new; outs = outs })
     → FollowsEnds old event outs new
-by_hearing old new event outs link line e h = subst (λ event. FollowsEnds old event outs new) (sym e)
+by_hearing old new event outs link line e h =
+    subst (λ event. FollowsEnds old event outs new) (sym e)
     (λ n. h.ends_are n ∙ ap (λ o. is_some (old.ends n) && not (is_link_ended n o)) (sym h.outs_are))
 
 handled_ends : (old new : LayerView) (event : Event) (outs : List Sent)

@@ -1,4 +1,4 @@
--- Each server is what its own events make of it, and its clients are told what it puts out for them.
+-- Each server is what its own events make of it; its clients are told what it puts out for them.
 use Rattle.std.proofs.Common.{◌≡◌, ◌≢◌, ℕ, Bool, true, false, nat_eq, if◌then◌else◌, Option, Some}
 use Rattle.std.proofs.Common.{None, List, [], ◌∷◌, ◌++◌, inl, inr, append-nil, refl, sym, ap, subst}
 use Rattle.std.proofs.Common.{◌∙◌}
@@ -147,7 +147,8 @@ handled_both : (old between new : LayerView) (events more : List Event) (outs ot
     → HasHandledAll old events outs between → HasHandledAll between more others new
     → HasHandledAll old (events ++ more) (outs ++ others) new
 handled_both old between new [] more outs others no_event h = h
-handled_both old between new (event ∷ events) more outs others (one_event {between = b} {first = f} {more = r} a rest e) h =
+handled_both old between new (event ∷ events) more outs others
+    (one_event {between = b} {first = f} {more = r} a rest e) h =
     one_event a (handled_both b between new events more r others rest h)
     (ap (λ v. v ++ others) e ∙ append_assoc f r others)
 

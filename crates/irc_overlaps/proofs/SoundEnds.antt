@@ -1,5 +1,5 @@
--- An end that is gone, a link that begins, and a line more on its way leave what links and ends have
--- to do with one another.
+-- An end that is gone, a link that begins, and a line more on its way leave what links and ends
+-- have to do with one another.
 use Rattle.std.proofs.Common.{◌≡◌, ◌≢◌, ℕ, Bool, Option, Some, None, List, [], ◌∷◌, ◌++◌, inl, inr}
 use Rattle.std.proofs.Common.{refl, sym, ap, subst, ◌∙◌}
 use Rattle.irc_relay.specs.Links.{Name, Link, part, AreLinked, AreJoined, HasEnds, links_without}

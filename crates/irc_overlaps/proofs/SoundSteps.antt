@@ -1,4 +1,5 @@
--- Whatever happens, the links are a forest, and just those are linked that have the two ends of one.
+-- Whatever happens, the links are a forest, and just those are linked that have the two ends of
+-- one.
 use Rattle.std.proofs.Common.{◌≡◌, ℕ, Option, Some, None, List, [], ◌∷◌, refl, sym, ap, subst}
 use Rattle.irc_batch.specs.Batches.{Sent, line_to, end_of, line_on, end_of_link}
 use Rattle.irc_relay.specs.Links.{Name, Link, AreLinked, IsForest}

@@ -18,7 +18,8 @@ use Rattle.irc_overlaps.specs.Steps.{Run, Step, is_of_client}
 
 -- ---- links
 
--- Whatever happens, the links are a forest, and just those are linked that have the two ends of one.
+-- Whatever happens, the links are a forest, and just those are linked that have the two ends of
+-- one.
 abbrev pub StepKeepsSound : Type 0
 StepKeepsSound = (step : Step) (old new : Net) → Happens step old new → IsSound old → IsSound new
 

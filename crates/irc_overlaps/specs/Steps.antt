@@ -1,7 +1,7 @@
 -- What happens in a network of layers, step by step, whatever is on its way.
 --
 -- a.net and b.net are linked, at a.net by 3 and at b.net by 4:
---   given a.net (Line 1 `TOPIC #c :one`)   al of a.net says a line; what goes to b.net is on its way
+--   given a.net (Line 1 `TOPIC #c :one`)   al of a.net says a line; it is on its way to b.net
 --   given b.net (Line 1 `TOPIC #c :two`)   so does bo, who has not heard of it
 --   delivered b.net 4                      b.net is given the oldest line on its way: `COUNT 7 1`
 --   delivered b.net 4                      and the next: the piece is whole, and heard
@@ -10,9 +10,10 @@
 --   lost b.net 4                           b.net is told
 --   made b.net 5 a.net 4                   b.net calls a.net
 -- What is on its way is lines, and a delivery takes one: a piece is the lines from a COUNT on, and
--- where a link is lost within it what came of it came, and nothing is heard of that. A link that
--- both ends lose is cut to any front of what was on its way, for each end may read until it is told.
-use Rattle.std.specs.Prelude.{◌≡◌, ◌≢◌, ℕ, Bool, true, false, is_some, Some, None, Ok, List, [], ◌∷◌}
+-- where a link is lost within it what came of it came, and nothing is heard of that. What is on its
+-- way on a link that is lost is cut to any front of it, for each end may read until it is told.
+use Rattle.std.specs.Prelude.{◌≡◌, ◌≢◌, ℕ, Bool, true, false, is_some, Some, None, Ok, List, []}
+use Rattle.std.specs.Prelude.{◌∷◌}
 use Rattle.irc_batch.specs.Batches.{Sent}
 use Rattle.irc_relay.specs.Links.{Name, part}
 use Rattle.irc_server.specs.declared.event.Event.{Event}
@@ -25,8 +26,8 @@ use Rattle.irc_overlaps.specs.Networks.{without_end}
 
 -- ---- one server
 
--- A layer has handled an event, by which it has put out these, and is this one then. None is refused
--- here, and memory does not run out.
+-- A layer has handled an event, by which it has put out these, and is this one then. None is
+-- refused here, and memory does not run out.
 abbrev pub HasHandled : LayerView → Event → List Sent → LayerView → Type 0
 HasHandled old event outs new =
     Handles (record { layer = old; outs = [] }) event (record { layer = new; outs = outs }) (Ok tt)

@@ -70,8 +70,8 @@ pub fn call_is_on_its_way()
     ensures { CallIsOnItsWay }
 {}
 
-/// a.net calls x.net, which is no peer of it, and closes the link: that is kept with its reason, and
-/// x.net has its end until it is told.
+/// a.net calls x.net, which is no peer of it, and closes the link: that is kept with its reason,
+/// and x.net has its end until it is told.
 pub fn call_is_closed()
     ensures { CallIsClosed }
 {}

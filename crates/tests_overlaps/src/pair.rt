@@ -5,8 +5,8 @@
 //! - `to-a`, `to-b` delivers all lines that are on their way there; `rest` all, until none is.
 //! - `cut` is the loss of the link, with what is on its way, and `link` a new one, by which a.net
 //!   calls.
-//! - `al LINE`, `bo LINE` is the next line that this client has received; `forget` leaves those aside
-//!   that both have received so far.
+//! - `al LINE`, `bo LINE` is the next line that this client has received; `forget` leaves those
+//!   aside that both have received so far.
 //! - `topic TEXT` is the topic of #c at both; `topic-a TEXT`, `topic-b TEXT` at one of them.
 //!
 //! In the end nothing is on its way, neither has closed the link, and both clients have received no
