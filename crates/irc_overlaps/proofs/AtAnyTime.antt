@@ -1,5 +1,5 @@
 -- What a server does not refuse can happen, whatever is on its way.
-use Rattle.std.proofs.Common.{◌≡◌, ℕ, Bool, true, false, Some, None, Ok, List, [], refl, sym}
+use Rattle.std.proofs.Common.{◌≡◌, true, false, Some, None, Ok, List, [], refl, sym}
 use Rattle.std.proofs.Common.{subst}
 use Rattle.irc_batch.specs.Batches.{Sent}
 use Rattle.irc_relay.specs.Links.{Name}

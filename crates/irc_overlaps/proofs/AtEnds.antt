@@ -1,9 +1,9 @@
 -- What stands at one end, and what at the others.
-use Rattle.std.proofs.Common.{◌≡◌, ◌≢◌, ℕ, Bool, true, false, ◌&&◌, nat_eq, if◌then◌else◌, Option}
+use Rattle.std.proofs.Common.{◌≡◌, ◌≢◌, ℕ, true, false, ◌&&◌, nat_eq, if◌then◌else◌, Option}
 use Rattle.std.proofs.Common.{Some, None, ◌⊎◌, inl, inr, refl, sym, ap, ◌∙◌}
 use Rattle.std.proofs.lemmas.Bool.Decides.{eqb_tells}
 use Rattle.std.proofs.lemmas.Option.{none-some}
-use Rattle.irc_relay.specs.Links.{Name, same}
+use Rattle.irc_relay.specs.Links.{Name}
 use Rattle.irc_relay.specs.Lemmas.TellingNames.{Telling, alike, unlike, tell}
 use Rattle.irc_overlaps.specs.Networks.{Net, EndAt, end_at, is_at, is_back, with_at, whole_with}
 use Rattle.irc_overlaps.specs.Networks.{far_end, AreOneLink}

@@ -1,8 +1,7 @@
 -- The example.
-use Rattle.std.proofs.Common.{◌≡◌, ◌≢◌, ℕ, false, Some, None, List, [], ◌∷◌, codes, refl, sym}
-use Rattle.std.proofs.Common.{ap, ◌∙◌}
-use Rattle.std.specs.Fmt.{digits}
-use Rattle.std.specs.FinMap.{empty, get, get-empty}
+use Rattle.std.proofs.Common.{◌≡◌, ◌≢◌, ℕ, false, Some, None, codes, refl}
+use Rattle.std.proofs.Common.{ap}
+use Rattle.std.specs.FinMap.{get-empty}
 use Rattle.std.specs.Ordering.{nat_cmp}
 use Rattle.irc_line.specs.Bytes.{cut}
 use Rattle.irc_line.specs.Messages.{line_text}
@@ -17,7 +16,6 @@ use Rattle.irc_stage.specs.ClientTold.{client_told}
 use Rattle.irc_stage.specs.Lemmas.Alone.{knows_no_other}
 use Rattle.irc_stage.specs.declared.clients.Client.{Client}
 use Rattle.irc_stage.specs.View.{End, View}
-use Rattle.irc_layer.specs.Layers.{LayerView}
 use Rattle.irc_overlaps.specs.Networks.{Net, end_at, joining}
 use Rattle.irc_overlaps.specs.Rest.{IsEndQuiet, IsNew}
 use Rattle.irc_overlaps.specs.Steps.{Run, no_step, one_step}

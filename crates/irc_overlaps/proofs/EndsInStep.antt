@@ -1,9 +1,8 @@
 -- By whatever a layer hears, the ends that it has then are those that it had, but for those whose
 -- end it has put out.
 use Rattle.std.proofs.Common.{◌≡◌, ℕ, Bool, true, false, not, ◌&&◌, ◌||◌, is_some, Option, Some}
-use Rattle.std.proofs.Common.{None, Ok, List, [], ◌∷◌, ◌++◌, append-nil, map, nat_eq, if◌then◌else◌}
-use Rattle.std.proofs.Common.{refl, sym, ap, subst, ◌∙◌}
-use Rattle.std.specs.List.{list_any}
+use Rattle.std.proofs.Common.{None, List, [], ◌∷◌, ◌++◌, append-nil, map, nat_eq, if◌then◌else◌}
+use Rattle.std.proofs.Common.{refl, sym, ap, ◌∙◌}
 use Rattle.std.specs.Option.{option_and_then, option_map}
 use Rattle.std.proofs.lemmas.List.{append_assoc}
 use Rattle.std.proofs.lemmas.List.Folds.{list_any-append}
@@ -27,23 +26,23 @@ use Rattle.irc_pieces.specs.declared.piece_end.Heard.TheVariants as heard
 use Rattle.irc_pieces.specs.Tallies.{count_for}
 use Rattle.irc_server.specs.Connected.{ends_link, is_link_ended}
 use Rattle.irc_server.specs.declared.event.Event.{Event}
-use Rattle.irc_server.specs.declared.event.Event.TheVariants.{Connect, Line, Gone, LinkUp, LinkLine}
+use Rattle.irc_server.specs.declared.event.Event.TheVariants.{LinkLine}
 use Rattle.irc_server.specs.declared.event.Event.TheVariants.{LinkDown}
 use Rattle.irc_server.specs.declared.event.ServerFault.{ServerFault}
 use Rattle.irc_engine.specs.Noting.{far_of}
 use Rattle.irc_layer.specs.Asking.{asked_of, tell_parts}
 use Rattle.irc_layer.specs.Away.{has_no_place}
-use Rattle.irc_layer.specs.Ends.{change_end, end_hearing, ends_followed, with_end, with_log_after}
+use Rattle.irc_layer.specs.Ends.{change_end, end_hearing, with_end, with_log_after}
 use Rattle.irc_layer.specs.Ends.{heard_if, Ends}
 use Rattle.irc_layer.specs.Holding.{is_held, is_new}
 use Rattle.irc_layer.specs.Layers.{asking, brings, by_itself, by_line, by_setting, by_telling}
 use Rattle.irc_layer.specs.Layers.{closing, given_at, kill_by, member_by, peer_of, puts_out}
 use Rattle.irc_layer.specs.Layers.{putting, raised_at, raises_at, spelled_of, spelling, tells_count}
 use Rattle.irc_layer.specs.Layers.{telling, told_of, with_ends, State}
-use Rattle.irc_layer.specs.Layers.{BringsBy, Does, Gives, GivesAs, GivesKill, GivesKillBy}
-use Rattle.irc_layer.specs.Layers.{GivesKillIf, GivesKills, HearsAll, HearsAs, HearsBy, HearsOne}
-use Rattle.irc_layer.specs.Layers.{HearsOther, HearsPiece, IsRefusedBy, IsSet, Passes}
-use Rattle.irc_layer.specs.Layers.{HearsIf, PassesOrNot, Sets, SetsIf, Shuts, all_heard, hears_more}
+use Rattle.irc_layer.specs.Layers.{BringsBy, Does, Gives, GivesAs, GivesKillBy}
+use Rattle.irc_layer.specs.Layers.{GivesKillIf, GivesKills, HearsAll, HearsAs, HearsBy}
+use Rattle.irc_layer.specs.Layers.{HearsOther, IsRefusedBy}
+use Rattle.irc_layer.specs.Layers.{HearsIf, PassesOrNot, Sets, SetsIf, all_heard, hears_more}
 use Rattle.irc_layer.specs.Layers.{not_open, sets}
 use Rattle.irc_layer.specs.Putting.{all_put, body, count_at, count_before, count_out, ends_behind}
 use Rattle.irc_layer.specs.Putting.{ends_behind_all, is_echo, is_unspoken, line_put, one_put}

@@ -1,27 +1,25 @@
 -- The ends of a network are just those that the layers have, whatever happens.
 use Rattle.std.proofs.Common.{◌≡◌, ◌≢◌, ℕ, Bool, true, false, not, ◌&&◌, ◌||◌, is_some, Option}
-use Rattle.std.proofs.Common.{Some, None, Ok, List, [], ◌∷◌, ◌++◌, nat_eq, if◌then◌else◌, inl, inr}
+use Rattle.std.proofs.Common.{Some, None, List, [], ◌∷◌, nat_eq, if◌then◌else◌, inl, inr}
 use Rattle.std.proofs.Common.{refl, sym, ap, subst, ◌∙◌}
-use Rattle.std.specs.List.{list_any}
 use Rattle.std.proofs.lemmas.Bool.Decides.{eqb_tells}
 use Rattle.irc_batch.specs.Batches.{Sent, line_to, end_of, line_on, end_of_link}
-use Rattle.irc_relay.specs.Links.{Name, same, part}
+use Rattle.irc_relay.specs.Links.{Name, part}
 use Rattle.irc_relay.specs.Lemmas.TellingNames.{alike, unlike, tell, same_when, same_unless}
 use Rattle.irc_server.specs.Connected.{ends_link, is_link_ended}
 use Rattle.irc_server.specs.declared.event.Event.{Event}
 use Rattle.irc_server.specs.declared.event.Event.TheVariants.{Connect, Line, Gone, LinkUp, LinkLine}
 use Rattle.irc_server.specs.declared.event.Event.TheVariants.{LinkDown}
-use Rattle.irc_layer.specs.Ends.{ends_followed, new_end, with_end, Ends}
-use Rattle.irc_layer.specs.Layers.{by_itself, Handles, LayerView, Passes, State, passes, hears}
-use Rattle.irc_layer.specs.Layers.{is_heard}
-use Rattle.irc_overlaps.specs.Networks.{Net, EndAt, end_at, all_sent_out, far_end, joining, sending}
+use Rattle.irc_layer.specs.Ends.{ends_followed, new_end, Ends}
+use Rattle.irc_layer.specs.Layers.{by_itself, LayerView, Passes, passes, hears}
+use Rattle.irc_overlaps.specs.Networks.{Net, EndAt, end_at, all_sent_out, far_end, joining}
 use Rattle.irc_overlaps.specs.Networks.{sent_out, with_at, with_layer, without_end}
 use Rattle.irc_overlaps.specs.Rest.{HaveTheirEnds, IsNew}
-use Rattle.irc_overlaps.specs.Steps.{Happens, HasGiven, HasHandled, IsDelivered, IsGiven, IsLost}
+use Rattle.irc_overlaps.specs.Steps.{HasGiven, HasHandled, IsGiven, IsLost}
 use Rattle.irc_overlaps.specs.Steps.{IsMade, Run, Step, given, delivered, made, lost}
 use Rattle.irc_overlaps.specs.Steps.{no_step, one_step, is_of_client}
 use Rattle.irc_overlaps.specs.Laws.{RunsHaveTheirEnds, StepKeepsEnds}
-use Rattle.irc_overlaps.proofs.AtEnds.{at_it, at_other, at_end, with_at-it, with_at-other}
+use Rattle.irc_overlaps.proofs.AtEnds.{with_at-it, with_at-other}
 use Rattle.irc_overlaps.proofs.EndsInStep.{all_there, both, hears_if, stays, InStep}
 use Rattle.irc_overlaps.proofs.PutOut.{all_layers, sending_other}
 

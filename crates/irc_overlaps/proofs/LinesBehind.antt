@@ -1,12 +1,12 @@
 -- What a server puts out on a link goes behind what was on its way to the other end.
-use Rattle.std.proofs.Common.{◌≡◌, ◌≢◌, ℕ, Bool, true, false, nat_eq, if◌then◌else◌, Option, Some}
+use Rattle.std.proofs.Common.{◌≡◌, ◌≢◌, ℕ, if◌then◌else◌, Some}
 use Rattle.std.proofs.Common.{None, List, [], ◌∷◌, ◌++◌, inl, inr, append-nil, refl, sym, ap, subst}
 use Rattle.std.proofs.Common.{◌∙◌}
 use Rattle.std.proofs.lemmas.Bool.Decides.{eqb_tells}
 use Rattle.std.proofs.lemmas.List.{append_assoc}
 use Rattle.irc_batch.specs.Batches.{Sent, line_to, end_of, line_on, end_of_link}
 use Rattle.irc_relay.specs.Links.{Name}
-use Rattle.irc_overlaps.specs.Networks.{Net, EndAt, end_at, AreOneLink, all_sent_out, far_end}
+use Rattle.irc_overlaps.specs.Networks.{Net, end_at, AreOneLink, all_sent_out, far_end}
 use Rattle.irc_overlaps.specs.Networks.{sending, sent_out, with_at, with_layer, closing}
 use Rattle.irc_overlaps.specs.Laws.{LinesGoBehind, lines_on}
 use Rattle.irc_overlaps.proofs.AtEnds.{with_at-it, with_at-other, one_end, no_end, Reaching}

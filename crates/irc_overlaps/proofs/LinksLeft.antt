@@ -1,7 +1,7 @@
 -- Which links are left of a list without one of them.
-use Rattle.std.proofs.Common.{◌≡◌, Bool, true, false, if◌then◌else◌, List, [], ◌∷◌, inl, inr, sym}
+use Rattle.std.proofs.Common.{◌≡◌, List, [], ◌∷◌, inl, inr, sym}
 use Rattle.std.proofs.Common.{subst, ◌∙◌}
-use Rattle.irc_relay.specs.Links.{Name, Link, AreLinked, HasEnds, has_ends, links_without}
+use Rattle.irc_relay.specs.Links.{Name, Link, AreLinked, HasEnds, links_without}
 use Rattle.irc_relay.specs.Lemmas.LinkTakenOut.{Ending, ends, passes, ending, without-ends}
 use Rattle.irc_relay.specs.Lemmas.LinkTakenOut.{without-passes}
 

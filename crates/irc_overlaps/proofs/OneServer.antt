@@ -1,23 +1,23 @@
 -- What is done at a server leaves the others as they were.
-use Rattle.std.proofs.Common.{◌≡◌, ◌≢◌, ℕ, Bool, Option, Some, None, List, [], ◌∷◌, ◌++◌}
+use Rattle.std.proofs.Common.{◌≡◌, ℕ, Some, None, List, [], ◌∷◌, ◌++◌}
 use Rattle.std.proofs.Common.{append-nil, if◌then◌else◌, refl, sym, ap, subst, ◌∙◌}
 use Rattle.std.proofs.lemmas.List.{append_assoc}
 use Rattle.irc_batch.specs.Batches.{Sent, line_to, end_of, line_on, end_of_link}
 use Rattle.irc_batch.specs.declared.close_reason.CloseReason.{CloseReason}
-use Rattle.irc_relay.specs.Links.{Name, same, AreJoined}
+use Rattle.irc_relay.specs.Links.{Name}
 use Rattle.irc_relay.specs.Lemmas.TellingNames.{same_unless}
 use Rattle.irc_server.specs.declared.event.Event.{Event}
 use Rattle.irc_layer.specs.Layers.{LayerView}
-use Rattle.irc_overlaps.specs.Networks.{Net, EndAt, end_at, AreOneLink, Closing, Told, all_sent_out}
+use Rattle.irc_overlaps.specs.Networks.{Net, end_at, AreOneLink, Closing, Told, all_sent_out}
 use Rattle.irc_overlaps.specs.Networks.{closing, far_end, sending, sent_out, telling, with_at}
 use Rattle.irc_overlaps.specs.Networks.{with_coming, with_layer}
-use Rattle.irc_overlaps.specs.Rest.{IsQuietPart, IsSound}
-use Rattle.irc_overlaps.specs.Steps.{HasGiven, IsDelivered, IsGiven}
+use Rattle.irc_overlaps.specs.Rest.{IsSound}
+use Rattle.irc_overlaps.specs.Steps.{IsGiven}
 use Rattle.irc_overlaps.specs.Laws.{AreBy, DeliveryTakesFirst, GivenIsOfOne, HasClosed, IsBehind}
-use Rattle.irc_overlaps.specs.Laws.{IsLeft, is_there, is_closed, IsOfOne, LeavesOthers}
-use Rattle.irc_overlaps.specs.Laws.{NoneIsDelivered, TakesFirst}
+use Rattle.irc_overlaps.specs.Laws.{IsLeft, is_there, is_closed, LeavesOthers}
+use Rattle.irc_overlaps.specs.Laws.{NoneIsDelivered}
 use Rattle.irc_overlaps.proofs.AtEnds.{AtEnd, at_it, at_other, at_end, with_at-it, with_at-other}
-use Rattle.irc_overlaps.proofs.AtEnds.{Reaching, reaches, reaches_none, reaching}
+use Rattle.irc_overlaps.proofs.AtEnds.{reaches, reaches_none, reaching}
 use Rattle.irc_overlaps.proofs.SoundEnds.{far_apart, fewer_sound}
 use Rattle.irc_overlaps.proofs.SoundSteps.{one_sound}
 

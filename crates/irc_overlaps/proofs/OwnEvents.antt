@@ -1,5 +1,5 @@
 -- Each server is what its own events make of it; its clients are told what it puts out for them.
-use Rattle.std.proofs.Common.{◌≡◌, ◌≢◌, ℕ, Bool, true, false, nat_eq, if◌then◌else◌, Option, Some}
+use Rattle.std.proofs.Common.{◌≡◌, ◌≢◌, ℕ, true, false, nat_eq, if◌then◌else◌, Option, Some}
 use Rattle.std.proofs.Common.{None, List, [], ◌∷◌, ◌++◌, inl, inr, append-nil, refl, sym, ap, subst}
 use Rattle.std.proofs.Common.{◌∙◌}
 use Rattle.std.specs.List.{cons_option, filter_map}
@@ -7,16 +7,15 @@ use Rattle.std.proofs.lemmas.Bool.Decides.{eqb_tells}
 use Rattle.std.proofs.lemmas.List.{append_assoc}
 use Rattle.std.proofs.lemmas.List.Elements.{filter_map-append}
 use Rattle.irc_batch.specs.Batches.{Sent, line_to, end_of, line_on, end_of_link}
-use Rattle.irc_batch.specs.declared.close_reason.CloseReason.{CloseReason}
-use Rattle.irc_relay.specs.Links.{Name, same}
+use Rattle.irc_relay.specs.Links.{Name}
 use Rattle.irc_relay.specs.Lemmas.TellingNames.{alike, unlike, tell, same_when}
 use Rattle.irc_relay.specs.Lemmas.TellingNames.{same_unless}
 use Rattle.irc_server.specs.declared.event.Event.{Event}
 use Rattle.irc_layer.specs.Layers.{LayerView}
-use Rattle.irc_overlaps.specs.Networks.{Net, EndAt, Told, received, ended, Closing, all_sent_out}
-use Rattle.irc_overlaps.specs.Networks.{far_end, sending, sent_out, telling, with_at, with_layer}
-use Rattle.irc_overlaps.specs.Steps.{Happens, HasGiven, HasHandled, IsDelivered, IsGiven, IsLost}
-use Rattle.irc_overlaps.specs.Steps.{IsMade, Run, Step, given, delivered, made, lost}
+use Rattle.irc_overlaps.specs.Networks.{Net, Told, received, ended, Closing, all_sent_out}
+use Rattle.irc_overlaps.specs.Networks.{far_end, sent_out, telling, with_layer}
+use Rattle.irc_overlaps.specs.Steps.{Happens, HasHandled, IsGiven}
+use Rattle.irc_overlaps.specs.Steps.{Step, given, delivered, made, lost}
 use Rattle.irc_overlaps.specs.Steps.{no_step, one_step}
 use Rattle.irc_overlaps.specs.Laws.{EachGoesByItsOwn, GoesByItsOwn, HasHandledAll, closed_by}
 use Rattle.irc_overlaps.specs.Laws.{closes, told_by}

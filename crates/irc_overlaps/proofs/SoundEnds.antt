@@ -1,15 +1,15 @@
 -- An end that is gone, a link that begins, and a line more on its way leave what links and ends
 -- have to do with one another.
-use Rattle.std.proofs.Common.{◌≡◌, ◌≢◌, ℕ, Bool, Option, Some, None, List, [], ◌∷◌, ◌++◌, inl, inr}
+use Rattle.std.proofs.Common.{◌≡◌, ◌≢◌, ℕ, Option, Some, None, List, [], ◌∷◌, ◌++◌, inl, inr}
 use Rattle.std.proofs.Common.{refl, sym, ap, subst, ◌∙◌}
-use Rattle.irc_relay.specs.Links.{Name, Link, part, AreLinked, AreJoined, HasEnds, links_without}
+use Rattle.irc_relay.specs.Links.{Name, Link, part, AreLinked, links_without}
 use Rattle.irc_relay.specs.Lemmas.LinkTakenOut.{taken_out}
 use Rattle.irc_relay.specs.Lemmas.NextHops.{linked_joined, linked_other, linked_back}
 use Rattle.irc_overlaps.specs.Networks.{Net, EndAt, end_at, with_at, AreOneLink, far_end}
 use Rattle.irc_overlaps.specs.Networks.{links_apart, without_end, joining, sending, with_coming}
 use Rattle.irc_overlaps.specs.Rest.{AreSound, HasNumbers, IsSound}
 use Rattle.irc_overlaps.proofs.AtEnds.{AtEnd, at_it, at_other, at_end, with_at-it, with_at-other}
-use Rattle.irc_overlaps.proofs.AtEnds.{one_end, no_end, turned, renamed, Reaching, reaches}
+use Rattle.irc_overlaps.proofs.AtEnds.{one_end, no_end, turned, renamed, reaches}
 use Rattle.irc_overlaps.proofs.AtEnds.{reaches_none, reaching}
 use Rattle.irc_overlaps.proofs.LinksLeft.{left_linked, others_linked}
 

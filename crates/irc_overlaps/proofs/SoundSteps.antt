@@ -1,13 +1,13 @@
 -- Whatever happens, the links are a forest, and just those are linked that have the two ends of
 -- one.
-use Rattle.std.proofs.Common.{◌≡◌, ℕ, Option, Some, None, List, [], ◌∷◌, refl, sym, ap, subst}
+use Rattle.std.proofs.Common.{◌≡◌, ℕ, Some, List, [], ◌∷◌, sym, ap, subst}
 use Rattle.irc_batch.specs.Batches.{Sent, line_to, end_of, line_on, end_of_link}
-use Rattle.irc_relay.specs.Links.{Name, Link, AreLinked, IsForest}
+use Rattle.irc_relay.specs.Links.{Name, AreLinked, IsForest}
 use Rattle.irc_server.specs.declared.event.Event.{Event}
-use Rattle.irc_overlaps.specs.Networks.{Net, EndAt, end_at, AreOneLink, all_sent_out, with_layer}
-use Rattle.irc_overlaps.specs.Networks.{far_end, sent_out}
-use Rattle.irc_overlaps.specs.Rest.{AreSound, HasNumbers, IsNew, IsSound}
-use Rattle.irc_overlaps.specs.Steps.{Happens, HasGiven, IsDelivered, IsGiven, IsLost, IsMade, Run}
+use Rattle.irc_overlaps.specs.Networks.{Net, end_at, all_sent_out, with_layer}
+use Rattle.irc_overlaps.specs.Networks.{sent_out}
+use Rattle.irc_overlaps.specs.Rest.{IsNew, IsSound}
+use Rattle.irc_overlaps.specs.Steps.{IsDelivered, IsGiven, IsMade, Run}
 use Rattle.irc_overlaps.specs.Steps.{no_step, one_step, Step, given, delivered, made, lost}
 use Rattle.irc_overlaps.specs.Laws.{RunsAreSound, StepKeepsSound}
 use Rattle.irc_overlaps.proofs.AtEnds.{no_end}

@@ -1,6 +1,6 @@
 -- A network that begins, of which one server calls another, to which a client comes meanwhile; and
 -- one that calls a server which is no peer of it.
-use Rattle.std.specs.Prelude.{◌≡◌, ℕ, Some, None, List, [], ◌∷◌, ◌++◌, codes}
+use Rattle.std.specs.Prelude.{◌≡◌, Some, None, List, [], ◌∷◌, ◌++◌, codes}
 use Rattle.std.specs.FinMap.{empty}
 use Rattle.irc_line.specs.Bytes.{crlf}
 use Rattle.irc_batch.specs.declared.close_reason.CloseReason.TheVariants.{UnknownPeer}
@@ -8,10 +8,8 @@ use Rattle.irc_relay.specs.Links.{Name}
 use Rattle.irc_room.specs.Laws.{no_room}
 use Rattle.irc_routes.specs.About.{says}
 use Rattle.irc_routes.specs.Known.{alone_known}
-use Rattle.irc_server.specs.declared.event.Event.{Event}
 use Rattle.irc_server.specs.declared.event.Event.TheVariants.{Connect}
 use Rattle.irc_stage.specs.View.{KnownPeer, View}
-use Rattle.irc_layer.specs.Layers.{LayerView}
 use Rattle.irc_overlaps.specs.Networks.{Net, AreOneLink, end_at}
 use Rattle.irc_overlaps.specs.Rest.{IsEndQuiet, IsNew}
 use Rattle.irc_overlaps.specs.Steps.{Run, Step, given, made}

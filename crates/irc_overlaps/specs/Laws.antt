@@ -10,7 +10,7 @@ use Rattle.irc_server.specs.declared.event.Event.TheVariants.{LinkDown}
 use Rattle.irc_server.specs.Served.{fault_of}
 use Rattle.irc_stage.specs.View.{View}
 use Rattle.irc_layer.specs.Layers.{LayerView}
-use Rattle.irc_overlaps.specs.Networks.{Net, EndAt, end_at, AreOneLink, Told, received, ended}
+use Rattle.irc_overlaps.specs.Networks.{Net, end_at, AreOneLink, Told, received, ended}
 use Rattle.irc_overlaps.specs.Networks.{Closing}
 use Rattle.irc_overlaps.specs.Rest.{HaveTheirEnds, IsNew, IsQuietPart, IsSound}
 use Rattle.irc_overlaps.specs.Steps.{Happens, HasGiven, HasHandled, IsDelivered, IsGiven, IsLost}
