@@ -64,7 +64,7 @@ fn server(rt: &impl Abort, alloc: Global, name: &[u8], peer: &[u8]) -> Server {
     Server::serving(alloc, config, Programs::Off).expect(rt, "a server")
 }
 
-fn side(rt: &impl Abort, alloc: Global, name: &[u8], peer: &[u8]) -> Side {
+fn new_side(rt: &impl Abort, alloc: Global, name: &[u8], peer: &[u8]) -> Side {
     Side {
         layer: Layer::new(alloc, server(rt, alloc, name, peer), Vec::new(alloc)),
         coming: VecDeque::new(alloc),
@@ -238,7 +238,7 @@ fn lines_hold(near: &mut Side, far: &mut Side, lines: &str, out: &mut Batch) -> 
 
 /// Whether what each line of a text says is so.
 pub fn text_holds(rt: &impl Abort, alloc: Global, lines: &str) -> bool {
-    let mut near = side(rt, alloc, b"a.net", b"b.net");
-    let mut far = side(rt, alloc, b"b.net", b"a.net");
+    let mut near = new_side(rt, alloc, b"a.net", b"b.net");
+    let mut far = new_side(rt, alloc, b"b.net", b"a.net");
     lines_hold(&mut near, &mut far, lines, &mut Batch::new(alloc))
 }
