@@ -1,0 +1,12 @@
+pub mod AtEnds
+pub mod PutOut
+pub mod LinksLeft
+pub mod SoundEnds
+pub mod SoundSteps
+pub mod OneServer
+pub mod OwnEvents
+pub mod LinesBehind
+pub mod EndsInStep
+pub mod LayersEnds
+pub mod AtAnyTime
+pub mod ComputedRun
