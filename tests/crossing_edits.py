@@ -67,7 +67,8 @@ def grid(case):
     documents, edits = row_of(case.S, case.ours)
     log, cells, steps = [*case.ours], [], [*zip(documents, documents[1:])]
     for it in case.theirs:
-        edit, below = edit_of(documents[0], it), []
+        edit, below, changes = edit_of(documents[0], it), [], [entry.change for entry in log]
+        wanted = rules.through(it.change, changes), rules.log_behind(it.change, changes)
         after = [done(documents[0], edit)]
         for at, (entry, log_edit) in enumerate(zip(log, edits)):
             below.append(model.crossed(documents[at], log_edit, edit))
@@ -76,6 +77,7 @@ def grid(case):
             cells.append(Cell("theirs", documents[at + 1], it, edit))
             cells.append(Cell("ours", after[at], log[at], below[at]))
             after.append(done(after[at], below[at]))
+        assert wanted == (it.change, [entry.change for entry in log])
         steps += [*zip(documents, after), *zip(after, after[1:])]
         documents, edits = after, below
     return cells, any(has_ended(*step) for step in steps)
@@ -141,9 +143,11 @@ def shown(it):
     rows = {"".join(at): row for part in it.S for at, row in part.items() if row and any(row)}
     rows = [f"{at}: { {at: x for at, x in enumerate(row) if x} }" for at, row in rows.items()]
     if isinstance(it, Step):
-        return "\n        ".join([*rows, *(f"{name}: {shown(entry)}" for name, entry in (("ours", it.ours), ("theirs", it.theirs)))])
-    lists = [f"{side}: {shown(x)}" for side in ("ours", "theirs") for x in getattr(it, side)]
-    return "\n        ".join([*rows, f"own: {''.join(sorted(it.own))}", *lists])
+        lists = [f"ours: {shown(it.ours)}", f"theirs: {shown(it.theirs)}"]
+    else:
+        lists = [f"{side}: {shown(x)}" for side in ("ours", "theirs") for x in getattr(it, side)]
+        lists.insert(0, f"own: {''.join(sorted(it.own))}")
+    return "\n        ".join([*rows, *lists])
 
 
 def simpler(case):
@@ -210,8 +214,9 @@ def tried(name, options, most):
 def told(name, options, most=100):
     at, found, wrong = tried(name, options, most)
     kinds = [found.pop(key) for key in [*found] if isinstance(key, tuple)]
-    print(f"{name}: {at:,} ({', '.join(f'{number:,} {what}' for what, number in found.items())};", end=" ")
-    print(f"{len(kinds)} pairs of kinds, each {min(kinds, default=0):,} times or more), {len(wrong)} differ", flush=True)
+    parts = [f"{number:,} {what}" for what, number in found.items()]
+    parts += [f"{len(kinds)} pairs of kinds, each {min(kinds, default=0):,} times or more"]
+    print(f"{name}: {at:,} ({', '.join(parts)}), {len(wrong)} differ", flush=True)
     if wrong:
         it, fault = min(wrong, key=lambda each: len(shown(each[0])))
         if not isinstance(it, Step):

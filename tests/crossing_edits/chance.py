@@ -22,7 +22,8 @@ def any_document(chance):
     dense = chance.choice((0.5, 0.8, 1))
     user = {k: any_user(chance, k) if chance.random() < dense else None for k in NAMES}
     inside = chance.choice((0.3, 0.6, 0.9))
-    member = {(c, k): any_member(chance) if user[k] and chance.random() < inside else None for c, k in model.MEMBERS}
+    joined = {at for at in model.MEMBERS if user[at[1]] and chance.random() < inside}
+    member = {at: any_member(chance) if at in joined else None for at in model.MEMBERS}
     row = {c: any_row(chance, c) if lives(member, c) else model.BLANK for c in CHANNELS}
     own = {k for k in NAMES if user[k] and chance.random() < 0.5}
     return model.Document(user, member, row), own

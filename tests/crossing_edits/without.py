@@ -24,9 +24,14 @@ RULES = {
     ),
     "p and s are one": ("place_of", lambda right, letter: letter),
     "bans and members are each one": ("is_by_word", lambda right, letter: False),
-    "set over taken away": ("is_greater_change", lambda right, one, other: one.plus and right(one, other)
-                            and other.plus),
-    "s over p": ("is_greater_set", lambda right, letter, one, other: letter != "s" and right(letter, one, other)),
+    "set over taken away": (
+        "is_greater_change",
+        lambda right, one, other: other.plus and right(one, other),
+    ),
+    "s over p": (
+        "is_greater_set",
+        lambda right, letter, one, other: letter != "s" and right(letter, one, other),
+    ),
     "keys and bans by bytes": ("are_greater_bytes", lambda right, one, other: True),
     "limits by number": ("limit_of", lambda right, word: word),
     "letters of a member are followed": ("mode_now", lambda right, ours, channel, change, word: change),
