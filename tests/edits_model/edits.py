@@ -126,9 +126,9 @@ def member_behind(there, user, our_user, theirs, ours):
 def set_behind(S, b, a, c):
     if not lives(members_after(S, b), c):
         return NONE
-    if not lives(members_after(S, a), c):
-        return all_of(written(b.set[c], S.channel[c]))
-    return less(b.set[c], a.set[c])
+    if lives(members_after(S, a), c):
+        return less(b.set[c], a.set[c])
+    return all_of(written(b.set[c], S.channel[c])) if lives(S.member, c) else b.set[c]
 
 
 def update_behind_update(S, b, a):

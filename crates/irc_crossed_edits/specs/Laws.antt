@@ -15,7 +15,8 @@ use Rattle.irc_crossed_edits.specs.Standing.{Stands}
 abbrev pub CrossedStands : Type 0
 CrossedStands = (names : List Nick) (room : Document Place) (theirs ours : Change)
     (their_edit our_edit : Edit Place) → MayBeMade names room their_edit
-    → MayBeMade names room our_edit → AreOfTwo theirs ours → Stands names room (Some theirs) their_edit
+    → MayBeMade names room our_edit → AreOfTwo theirs ours
+    → Stands names room (Some theirs) their_edit
     → Stands names room (Some ours) our_edit
     → Stands names (edited names room our_edit) (crossed theirs ours)
     (edits.crossed names room their_edit our_edit)

@@ -1,5 +1,5 @@
--- Which edit of a room's document a change of the layer's log stands for: of who has which nickname,
--- and of who is in which channel.
+-- Which edit of a room's document a change of the layer's log stands for: of who has which
+-- nickname, and of who is in which channel.
 --
 --   al is a user of a.net, bo one of b.net, both in #c
 --   :al NICK ally        Rename al ally      al's row stands under ally from then on
@@ -7,7 +7,8 @@
 --   :a.net KILL bo :..   Go bo               bo's row goes, and from each channel
 -- A change keeps neither what a user's row is nor what is written in it: it stands for the edit
 -- whatever that is. Of a log, what nothing is left of stands for what does nothing.
-use Rattle.std.specs.Prelude.{◌≡◌, ℕ, Bool, true, false, Option, Some, None, is_some, List, unwrap_or}
+use Rattle.std.specs.Prelude.{◌≡◌, ℕ, Bool, true, false, Option, Some, None, is_some, List}
+use Rattle.std.specs.Prelude.{unwrap_or}
 use Rattle.irc_names.specs.Fold.{key, same}
 use Rattle.irc_crossing.specs.declared.change.Change.{Change}
 use Rattle.irc_crossing.specs.declared.change.Change.TheVariants.{Come, Rename, Go, Out, Join, Set}

@@ -3,13 +3,14 @@
 -- may keep what a server was asked to do in place of what the transformation makes of it.
 --
 --   a.net   :al KICK #c bo :out    b.net   :bo PART #c :bye
---   what is left of the PART at a.net is that bo goes, who is no member: it is alike to nothing, and
---   so is what is left of it behind :bo JOIN #c, by which bo comes again
+--   what is left of the PART at a.net is that bo goes, who is no member: it is alike to nothing,
+--   and so is what is left of it behind :bo JOIN #c, by which bo comes again
 use Rattle.std.specs.Prelude.{◌≡◌, true, false, Option, Some, None, List, [], ◌∷◌}
 use Rattle.irc_documents.specs.Lists.{AllMay, all_done, behind, through}
 use Rattle.irc_edited_rooms.specs.Writes.{Row}
 use Rattle.irc_edited_rooms.specs.Fates.{Fate, is_coming, untouched}
-use Rattle.irc_edited_rooms.specs.Documents.{ChannelName, Document, Edit, Nick, Update, edited, rename}
+use Rattle.irc_edited_rooms.specs.Documents.{ChannelName, Document, Edit, Nick, Update, edited}
+use Rattle.irc_edited_rooms.specs.Documents.{rename}
 use Rattle.irc_edited_rooms.specs.Documents.{update}
 use Rattle.irc_edited_rooms.specs.Crossing.{MayBeMade, crossed, lives_by, nothing}
 use Rattle.irc_edited_rooms.specs.EditedRooms.{edited_rooms}

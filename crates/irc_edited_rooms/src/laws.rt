@@ -33,8 +33,8 @@ pub fn rooms_can_be_told<Place>()
     ensures { RoomsCanBeTold Place }
 {}
 
-/// Edits that are alike, but for what does nothing where they stand, lead to the same and stay alike
-/// whatever they cross; so do logs of them.
+/// Edits that are alike, but for what does nothing where they stand, lead to the same and stay
+/// alike whatever they cross; so do logs of them.
 pub fn alike_stay_alike<Place>()
     ensures { AlikeStayAlike Place }
 {}

@@ -115,10 +115,9 @@ list_end before ours theirs =
     all_done rooms (list_edited before ours) (all_through rooms (list_document (list_room before))
     (list_edits (list_room before) theirs) (list_edits (list_room before) ours))
 
-pub makes : {A : Type 0} (before : List Effect) (effect : Effect) (look : Document Place → A) (it : A)
-    → look (list_edited before effect) ≡ it
-    → look (list_document (list_room (before ++ effect ∷ []))) ≡ it
-    → Makes before effect look it
+pub makes : {A : Type 0} (before : List Effect) (effect : Effect)
+    (look : Document Place → A) (it : A) → look (list_edited before effect) ≡ it
+    → look (list_document (list_room (before ++ effect ∷ []))) ≡ it → Makes before effect look it
 makes before effect look it edited behind = record {
   edited = (λ i. look (all_done rooms (document_after before i) (edits_after before effect i)))
       ∙ edited;

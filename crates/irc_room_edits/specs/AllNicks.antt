@@ -1,5 +1,5 @@
--- A list of all nicknames, by their folds, as laws of edits ask for it: all words of at most as many
--- bytes as a nickname has. They are more than could be written, and are never computed.
+-- A list of all nicknames, by their folds, as laws of edits ask for it: all words of at most as
+-- many bytes as a nickname has. They are more than could be written, and are never computed.
 --
 --   at most 2 of the bytes below 2    [], [1], [1, 1], [1, 0], [0], [0, 1], [0, 0]
 use Rattle.std.specs.Prelude.{ℕ, zero, suc, List, [], ◌∷◌, map}

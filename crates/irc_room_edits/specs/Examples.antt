@@ -22,7 +22,8 @@ use Rattle.irc_edited_rooms.specs.EditedRooms.{edited_rooms}
 use Rattle.irc_room_edits.specs.Documents.{document}
 use Rattle.irc_room_edits.specs.Edits.{edits_of}
 use Rattle.irc_room_edits.specs.Places.{Place, MemberPlace, ChannelPlace, of_user, of_member}
-use Rattle.irc_room_edits.specs.Places.{of_channel, nickname, away, operator, voice, spelling, topic}
+use Rattle.irc_room_edits.specs.Places.{of_channel, nickname, away, operator, voice, spelling}
+use Rattle.irc_room_edits.specs.Places.{topic}
 use Rattle.irc_room_edits.specs.Places.{privacy, channel_key, ban}
 
 -- ---- who there can be, and where
@@ -132,10 +133,12 @@ ban_by nick mask = changes_mode nick (set letter.Ban (Some mask))
 
 -- p and s are one place, and so are two spellings of one mask
 pub record ModesAreSet : Type 0 where
-  pub key_set : Makes two_in (changes_mode al (set letter.Key (Some (codes "x")))) (set_in channel_key)
+  pub key_set : Makes two_in (changes_mode al (set letter.Key (Some (codes "x"))))
+      (set_in channel_key)
       (1 ∷ codes "x")
   pub key_taken : Makes with_key (changes_mode al (clear letter.Key None)) (set_in channel_key) []
-  pub is_operator : Makes two_in (changes_mode al (set letter.Operator (Some bo))) (flag operator bo)
+  pub is_operator : Makes two_in (changes_mode al (set letter.Operator (Some bo)))
+      (flag operator bo)
       (Some (1 ∷ []))
   pub is_operator_no_more : Makes two_operators (changes_mode al (clear letter.Operator (Some bo)))
       (flag operator bo) (Some [])
@@ -217,7 +220,8 @@ pub record LeavesCross : Type 0 where
 pub record NamesAreFollowed : Type 0 where
   pub is_renamed : Agree two_operators (Rename al ally) (Kick bo hash_c al (codes "out")) users
       (ally ∷ bo ∷ [])
-  pub is_kicked : Agree two_operators (Rename al ally) (Kick bo hash_c al (codes "out")) members (bo ∷ [])
+  pub is_kicked : Agree two_operators (Rename al ally) (Kick bo hash_c al (codes "out")) members
+      (bo ∷ [])
 
 -- a.net   :al NICK ally           b.net   :bo NICK ally
 abbrev pub TwoToOneName : Type 0
@@ -225,7 +229,8 @@ TwoToOneName = Agree two_in (Rename al ally) (Rename bo ally) users []
 
 -- a.net   :al PART #c :bye        b.net   :bo JOIN #c
 pub record ChannelComesBack : Type 0 where
-  pub is_member : Agree one_in (Part al hash_c (codes "bye")) (Join bo hash_c false) members (bo ∷ [])
+  pub is_member : Agree one_in (Part al hash_c (codes "bye")) (Join bo hash_c false) members
+      (bo ∷ [])
   pub still_set : Agree one_in (Part al hash_c (codes "bye")) (Join bo hash_c false) (set_in topic)
       (codes "old")
   pub as_spelled : Agree one_in (Part al hash_c (codes "bye")) (Join bo hash_c false)

@@ -4,7 +4,7 @@
 --
 -- a.net - b.net - c.net, in #c al of a.net, bo of b.net and cy of c.net, all operators
 --   :al TOPIC #c :one   :bo KICK #c cy :out   :cy NICK zed   :cy MODE #c +k x   all said at once
---   at rest all three have #c with the topic one and the key x, al and bo in it, and zed, who is not
+--   at rest all three have #c with the topic one and the key x, al and bo in it, and zed outside
 use Rattle.std.specs.Prelude.{◌≡◌, List, []}
 use Rattle.irc_relay.specs.Links.{Name, AreJoined}
 use Rattle.irc_documents.specs.Editing.{Editing}
@@ -24,7 +24,8 @@ use Rattle.irc_room_edits.specs.Edits.{edits_of}
 use Rattle.irc_room_edits.specs.Places.{Place}
 use Rattle.irc_room_edits.specs.SameRooms.{HoldTheSame}
 
--- what a server is given at once, or reads at once: edits one behind another, as those of one effect
+-- what a server is given at once, or reads at once: edits one behind another, as those of one
+-- effect
 abbrev pub Piece : Type 0
 Piece = List (Edit Place)
 
@@ -48,7 +49,8 @@ RoomsRestAlike = (cut : Cut (edited_rooms all_nicks)) (start : Net (Document Pla
 
 -- What is given to a server with a room may be an effect that can be done there: its edits may be
 -- made, and the server's document is then that of the room behind it.
-pub record IsGiven (cut : Cut (edited_rooms all_nicks)) (room : Room) (effect : Effect) : Type 0 where
+pub record IsGiven (cut : Cut (edited_rooms all_nicks)) (room : Room)
+    (effect : Effect) : Type 0 where
   pub may : (pieces cut).may (document room) (edits_of room effect)
   pub same : (pieces cut).done (document room) (edits_of room effect)
       ≡ document (after room effect)

@@ -2,7 +2,8 @@
 
 ghost use Rattle.irc_room_edits.specs.AllNicks.{AllNicksAreListed};
 ghost use Rattle.irc_room_edits.specs.Examples.{BansCross, BothMakeChannel, ChannelComesBack};
-ghost use Rattle.irc_room_edits.specs.Examples.{JoinMakesChannel, KeysCross, LeaversGo, LeavesCross};
+ghost use Rattle.irc_room_edits.specs.Examples.{JoinMakesChannel, KeysCross, LeaversGo};
+ghost use Rattle.irc_room_edits.specs.Examples.{LeavesCross};
 ghost use Rattle.irc_room_edits.specs.Examples.{ModesAreSet, NamesAreFollowed, NoChangeIsWritten};
 ghost use Rattle.irc_room_edits.specs.Examples.{PrivaciesCross, RenameIsSpelled, SecondJoins};
 ghost use Rattle.irc_room_edits.specs.Examples.{TextsAreSet, TopicsCross, TwoToOneName};

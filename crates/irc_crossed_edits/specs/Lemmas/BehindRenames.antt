@@ -216,7 +216,8 @@ module _ (names : List Nick) (room : Document Place) (old new : List ℕ) (v : W
       → Stands names behind (if b then Some (Go nick None) else Some (Come nick))
       (update (update_followed b (of_one_user (key nick) (comes writes)) (key old) (key new) v))
   come_by nick writes free true is =
-      let one : key new ≡ key nick = sym (one_fold (key nick) (key new) (sym (tie nick new) ∙ is)) in
+      let one : key new ≡ key nick =
+      sym (one_fold (key nick) (key new) (sym (tie nick new) ∙ is)) in
       let there : is_some (behind.user (key nick)) ≡ true =
       ap (λ it. is_some (behind.user it)) (sym one)
       ∙ there_at (same_fold (key new) (key new)) v

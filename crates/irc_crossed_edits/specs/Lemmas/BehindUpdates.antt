@@ -17,7 +17,8 @@ use Rattle.irc_edited_rooms.specs.Documents.{ChannelName, Document, Edit, Nick, 
 use Rattle.irc_edited_rooms.specs.Documents.{rename, update, updated}
 use Rattle.irc_edited_rooms.specs.Crossing.{IsFitting, both_going, going_if, nothing, rename_left}
 use Rattle.irc_edited_rooms.specs.Crossing.{update_behind, users_behind}
-use Rattle.irc_edited_rooms.specs.Lemmas.FatesMeet.{none_goes as none_gone, none_stays, there_by_map}
+use Rattle.irc_edited_rooms.specs.Lemmas.FatesMeet.{none_goes as none_gone, none_stays}
+use Rattle.irc_edited_rooms.specs.Lemmas.FatesMeet.{there_by_map}
 use Rattle.irc_edited_rooms.specs.Lemmas.MayStay.{stays_there}
 use Rattle.irc_edited_rooms.specs.Lemmas.StaySound.{updated_sound}
 use Rattle.irc_room_edits.specs.Edits.{fate_if, of_one_member, of_one_user}

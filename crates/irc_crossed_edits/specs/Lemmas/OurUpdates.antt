@@ -151,7 +151,8 @@ module _ (room : Document Place) where
         || same_fold (key nick) (key (unwrap_or other gone))));
     member = λ channel nick there. by_member channel nick (is_gone gone other nick) refl;
     comes_alone = λ one two is. absurd (false≢true (sym (never_comes
-        (same_fold (key one) (key gone) || same_fold (key one) (key (unwrap_or other gone)))) ∙ is));
+        (same_fold (key one) (key gone) || same_fold (key one) (key (unwrap_or other gone))))
+        ∙ is));
   }
     where
       ours : Update Place
@@ -161,8 +162,11 @@ module _ (room : Document Place) where
           → NickFact ours nick (if b then None else Some nick)
       by_now nick true is =
           ap (λ it. is_going (going_if {Place = Place} it)) (sym (gone_tie gone other nick) ∙ is)
-      by_now nick false is =
-          (refl, ap (λ it. is_going (going_if {Place = Place} it)) (sym (gone_tie gone other nick) ∙ is))
+      by_now nick false is = (
+        refl,
+        ap (λ it. is_going (going_if {Place = Place} it))
+            (sym (gone_tie gone other nick) ∙ is),
+      )
 
       by_member : (channel nick : List ℕ) (b : Bool) → is_gone gone other nick ≡ b
           → MemberFact room ours channel nick (if b then None else Some nick)
@@ -171,7 +175,8 @@ module _ (room : Document Place) where
           (sym (gone_tie gone other nick) ∙ is)
       by_member channel nick false is = record {
         is = refl;
-        user = ap (λ it. is_going (going_if {Place = Place} it)) (sym (gone_tie gone other nick) ∙ is);
+        user =
+            ap (λ it. is_going (going_if {Place = Place} it)) (sym (gone_tie gone other nick) ∙ is);
         member = ap going_if (sym (gone_tie gone other nick) ∙ is);
       }
 

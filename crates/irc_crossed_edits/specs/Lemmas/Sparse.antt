@@ -39,9 +39,9 @@ module _ {Place : Type 0} where
   left_so row (comes v) (comes w) left other is = is
 
   -- of a member, where theirs leaves it and its user does not go
-  pub member_idle : (member : Option (Row Place)) (theirs_left our_user theirs ours target : Fate Place)
-      → is_going theirs_left ≡ false → theirs ≡ untouched → target ≡ untouched
-      → AlikeFates (after_fate ours member)
+  pub member_idle : (member : Option (Row Place))
+      (theirs_left our_user theirs ours target : Fate Place) → is_going theirs_left ≡ false
+      → theirs ≡ untouched → target ≡ untouched → AlikeFates (after_fate ours member)
       (member_left theirs_left our_user (member_behind (is_some member) theirs ours)) target
   member_idle member theirs_left our_user theirs ours target other is is_too = idle
       (left_so (after_fate ours member) theirs_left our_user

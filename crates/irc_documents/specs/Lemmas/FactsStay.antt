@@ -28,9 +28,11 @@ module _ {Doc Op : Type 0} (e : Editing Doc Op) (d : HasDiamond e) (Fact : Doc �
   done_keeps net s hears op may all x = by (tell x s)
     where
       by : Telling x s → Fact (if same x s then e.done (net.doc x) op else net.doc x)
-      by (alike test is) = subst (λ b. Fact (if b then e.done (net.doc x) op else net.doc x)) (sym test)
+      by (alike test is) =
+          subst (λ b. Fact (if b then e.done (net.doc x) op else net.doc x)) (sym test)
           (keeps (net.doc x) op (subst (λ it. e.may (net.doc it) op) (sym is) may) (all x))
-      by (unlike test differ) = subst (λ b. Fact (if b then e.done (net.doc x) op else net.doc x)) (sym test) (all x)
+      by (unlike test differ) =
+          subst (λ b. Fact (if b then e.done (net.doc x) op else net.doc x)) (sym test) (all x)
 
   read_keeps : (net : Net Doc Op) (s t : Name) → AreLinked net.links s t → IsSound e net
       → (queue : List (Message Op)) → net.queue s t ≡ queue → OfDocuments Fact net

@@ -284,7 +284,8 @@ module _ {Place : Type 0} where
           (other.member name nick) (ours.member name nick) (nobody one may name nick)
           (nobody other may_too name nick) (nobody ours our_may name nick) (alike.users nick)
           (alike.members name nick);
-      sets = λ name living. set_theirs (lives names (room.member name)) (lives_by names room one name)
+      sets =
+          λ name living. set_theirs (lives names (room.member name)) (lives_by names room one name)
           (lives_by names room other name) (lives_by names room ours name) (room.channel name)
           (one.set name) (other.set name) (ours.set name) (lives_alike one other alike name)
           (alike.sets name);
@@ -303,7 +304,8 @@ module _ {Place : Type 0} where
           (one.member name nick) (other.member name nick) (nobody theirs their_may name nick)
           (nobody one may name nick) (nobody other may_too name nick) (alike.users nick)
           (alike.members name nick);
-      sets = λ name living. set_ours (lives names (room.member name)) (lives_by names room theirs name)
+      sets =
+          λ name living. set_ours (lives names (room.member name)) (lives_by names room theirs name)
           (lives_by names room one name) (lives_by names room other name) (room.channel name)
           (theirs.set name) (one.set name) (other.set name) (lives_alike one other alike name)
           (alike.sets name);

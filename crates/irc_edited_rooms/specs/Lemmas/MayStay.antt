@@ -172,7 +172,8 @@ module _ {Place : Type 0} where
       → IsSound names room → IsFitting names room (both_going one other)
   going_fits names room one other sound = record {
     sound = sound;
-    newcomers = λ nick is. absurd (none_comes Place (same_fold nick one || same_fold nick other) is);
+    newcomers =
+        λ nick is. absurd (none_comes Place (same_fold nick one || same_fold nick other) is);
     joiners = λ name nick is.
         absurd (none_comes Place (same_fold nick one || same_fold nick other) is);
     leavers = λ name nick is. is;

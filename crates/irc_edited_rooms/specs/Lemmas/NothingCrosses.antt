@@ -7,7 +7,8 @@ use Rattle.irc_edited_rooms.specs.Alike.{AlikeEdits, AlikeFates, AlikeUpdates, I
 use Rattle.irc_edited_rooms.specs.Writes.{Row, Writes, less, no_writes, writes_behind}
 use Rattle.irc_edited_rooms.specs.Fates.{Fate, stays, goes, comes, untouched, is_going, after_fate}
 use Rattle.irc_edited_rooms.specs.Fates.{both_go, fate_behind, is_one, member_behind, user_behind}
-use Rattle.irc_edited_rooms.specs.Documents.{ChannelName, Document, Edit, Nick, Update, edited, lives}
+use Rattle.irc_edited_rooms.specs.Documents.{ChannelName, Document, Edit, Nick, Update, edited}
+use Rattle.irc_edited_rooms.specs.Documents.{lives}
 use Rattle.irc_edited_rooms.specs.Documents.{members_after, pick, rename, update, updated}
 use Rattle.irc_edited_rooms.specs.Crossing.{IsFitting, MayBeMade, crossed, lives_by, member_left}
 use Rattle.irc_edited_rooms.specs.Crossing.{nothing, set_left, update_behind}
@@ -21,8 +22,9 @@ module _ {Place : Type 0} where
 
   -- ---- nothing behind an edit
 
-  pub left_idle : (row : Option (Row Place)) (user : Option (Row Place)) (ours left : Fate Place)
-      → IsIdle row left → IsIdle row (member_left (user_behind (is_some user) untouched ours) ours left)
+  pub left_idle : (row : Option (Row Place)) (user : Option (Row Place))
+      (ours left : Fate Place) → IsIdle row left
+      → IsIdle row (member_left (user_behind (is_some user) untouched ours) ours left)
   left_idle row user (stays w) left is = is
   left_idle row user goes left is = still_idle row
   left_idle row None (comes w) left is = is

@@ -6,7 +6,8 @@ use Rattle.irc_names.specs.TableLaws.{same_fold, one_fold}
 use Rattle.irc_edited_rooms.specs.Writes.{Row, Writes, no_writes, written}
 use Rattle.irc_edited_rooms.specs.Fates.{after_fate}
 use Rattle.irc_edited_rooms.specs.Documents.{Nick, ChannelName, Document, lives, pick}
-use Rattle.irc_edited_rooms.specs.Documents.{row_while, swapped, updated, renamed, edited, written_at}
+use Rattle.irc_edited_rooms.specs.Documents.{row_while, swapped, updated, renamed, edited}
+use Rattle.irc_edited_rooms.specs.Documents.{written_at}
 use Rattle.irc_edited_rooms.specs.Crossing.{MayBeRenamed, both_going, going_if}
 use Rattle.irc_edited_rooms.specs.Crossing.{rename_behind_rename}
 use Rattle.irc_edited_rooms.specs.Lemmas.FatesMeet.{untouched_stays}

@@ -9,7 +9,8 @@ use Rattle.irc_names.specs.Tables.{Table, alter, fold_cmp, row}
 use Rattle.irc_names.specs.TableLaws.{same_fold, one_fold, row-alter, row-moved}
 use Rattle.irc_names.specs.TableLaws.{row-moved_none}
 use Rattle.irc_modes.specs.Modes.{is_nil}
-use Rattle.irc_channels.specs.Channels.{has_member, joined, left, new_channel, renamed, while_members}
+use Rattle.irc_channels.specs.Channels.{has_member, joined, left, new_channel, renamed}
+use Rattle.irc_channels.specs.Channels.{while_members}
 use Rattle.irc_channels.specs.Channels.{with_topic, without_user}
 use Rattle.irc_channels.specs.declared.channel.Channel.{Channel}
 use Rattle.irc_channels.specs.declared.flags.Flags.{Flags}
@@ -22,7 +23,8 @@ use Rattle.irc_edited_rooms.specs.Lemmas.Living.{somebody}
 use Rattle.irc_room_edits.specs.Documents.{member_in}
 use Rattle.irc_room_edits.specs.Edits.{fate_if, making}
 use Rattle.irc_room_edits.specs.Places.{Place, ban, channel_key, invite_only, limit}
-use Rattle.irc_room_edits.specs.Places.{moderated, no_outside, privacy, spelling, topic, topic_locked}
+use Rattle.irc_room_edits.specs.Places.{moderated, no_outside, privacy, spelling, topic}
+use Rattle.irc_room_edits.specs.Places.{topic_locked}
 use Rattle.irc_room_edits.specs.Places.{of_channel, of_member, of_user, channel_row, channel_write}
 use Rattle.irc_room_edits.specs.Places.{member_row}
 

@@ -367,8 +367,8 @@ module _ (names : List Nick) (all : HasAllNicks names) (room : Room) (well : IsW
       (rows_of_user (alter fold (λ _. Some user) room.users) what
       (come_at room.users fold user) (λ name nick. refl) (λ name. refl))
 
-  pub change_leads : (nick : List ℕ) (change : UserChange) → IsPossible room (ChangeUser nick change)
-      → KeepsLimits (ChangeUser nick change)
+  pub change_leads : (nick : List ℕ) (change : UserChange)
+      → IsPossible room (ChangeUser nick change) → KeepsLimits (ChangeUser nick change)
       → Lead names (document room) (edits_of room (ChangeUser nick change))
       (document (after room (ChangeUser nick change)))
   unfolding after
@@ -498,7 +498,8 @@ module _ (names : List Nick) (all : HasAllNicks names) (room : Room) (well : IsW
         → (not (has_user room new) || b) ≡ true → row room.users (key new) ≡ None
     free_by true is differ free =
         absurd (true≢false (sym is ∙ same-ties nick new ∙ differ))
-    free_by false is differ free = none_of (row room.users (key new)) (only (has_user room new) free)
+    free_by false is differ free =
+        none_of (row room.users (key new)) (only (has_user room new) free)
       where
         only : (a : Bool) → (not a || false) ≡ true → not a ≡ true
         only true so = so

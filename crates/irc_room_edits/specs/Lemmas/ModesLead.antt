@@ -38,7 +38,8 @@ use Rattle.irc_room_edits.specs.Lemmas.LettersEdited.{letter_members, letter_mem
 use Rattle.irc_room_edits.specs.Lemmas.LettersEdited.{letter_set, letter_set_elsewhere}
 use Rattle.irc_room_edits.specs.Lemmas.LettersEdited.{letter_users}
 use Rattle.irc_room_edits.specs.Lemmas.SoundDocuments.{document_sound, update_leads}
-use Rattle.irc_room_edits.specs.Places.{Place, channel_row, flag_value, member_write, operator, voice}
+use Rattle.irc_room_edits.specs.Places.{Place, channel_row, flag_value, member_write, operator}
+use Rattle.irc_room_edits.specs.Places.{voice}
 
 -- ---- one letter can be done
 

@@ -69,8 +69,8 @@ pub come_at : (users : Table User) (fold : List ℕ) (user : User) (k : List ℕ
 come_at users fold user k =
     by (same_fold k fold) ∙ sym (ap (option_map user_row) (row-alter fold (λ _. Some user) users k))
   where
-    by : (b : Bool)
-        → after_fate (fate_if b (comes (all_of (user_row user)))) (option_map user_row (row users k))
+    by : (b : Bool) → after_fate (fate_if b (comes (all_of (user_row user))))
+        (option_map user_row (row users k))
         ≡ option_map user_row (cond b (Some user) (row users k))
     by true = refl
     by false = untouched_stays (option_map user_row (row users k))
