@@ -1,25 +1,38 @@
 -- What a server does by each thing that it is given, and that it is just what one room machine does
 -- by the same: at every moment each client has received what that machine sends it, in the order of
 -- effects of its own server.
-use Rattle.std.specs.Prelude.{◌≡◌, ℕ, ⊤, Option, Some, None, Result, List, [], ◌∷◌, ◌++◌}
+use Rattle.std.specs.Prelude.{◌≡◌, ℕ, ⊤, Option, Some, None, Result, Ok, Err, List, [], ◌∷◌}
+use Rattle.std.specs.Prelude.{◌++◌, if◌then◌else◌}
 use Rattle.std.specs.FinMap.{get}
 use Rattle.std.specs.List.{flat_map}
+use Rattle.std.specs.Option.{option_map_or}
+use Rattle.irc_names.specs.Fold.{key}
+use Rattle.irc_names.specs.Tables.{row}
 use Rattle.irc_line.specs.declared.reading.LineFault.{LineFault}
 use Rattle.irc_line.specs.Messages.{Parsed}
 use Rattle.irc_batch.specs.Batches.{Sent}
+use Rattle.irc_users.specs.declared.user.User.{User}
+use Rattle.irc_room.specs.effect.Effect.{Effect}
+use Rattle.irc_room.specs.effect.Effect.TheVariants.{Quit}
 use Rattle.irc_room.specs.Effects.{IsPossible, doer_of}
 use Rattle.irc_room.specs.InTurn.{IsSoFirst}
 use Rattle.irc_room.specs.Room.{IsWellFormed}
+use Rattle.irc_routes.specs.Known.{place_of}
+use Rattle.irc_acts.specs.Acts.{effects_among}
+use Rattle.irc_commands.specs.Decide.{decide}
+use Rattle.irc_commands.specs.Register.{register}
+use Rattle.irc_stage.specs.declared.clients.Client.{Client}
+use Rattle.irc_stage.specs.declared.clients.Client.TheVariants.{Registering, Registered}
 use Rattle.irc_stage.specs.RoomMachine.{RoomMachine, client_of}
-use Rattle.irc_stage.specs.Handle.{connects, says, goes, user_of}
-use Rattle.irc_stage.specs.EffectTold.{Served}
+use Rattle.irc_stage.specs.Handle.{ClientEvent, connects, says, goes, lost_text, user_of}
+use Rattle.irc_stage.specs.EffectTold.{Served, is_elsewhere, view_after}
 use Rattle.irc_stage.specs.View.{View, machine_of}
 use Rattle.irc_server.specs.Served.{ReadEvent, of_client, link_up, link_says, link_down, served}
 use Rattle.irc_server.specs.LinesThatSet.{line_set}
 use Rattle.irc_server.specs.Owed.{lines_to}
 use Rattle.irc_own_order.specs.Doings.{Doing, an_effect, a_spelling, an_answer, a_client}
 use Rattle.irc_own_order.specs.Doings.{a_departure, a_closing, an_ending, a_place, machine_along}
-use Rattle.irc_own_order.specs.Doings.{sent_along, EachDoing, to_clients}
+use Rattle.irc_own_order.specs.Doings.{sent_along, EachDoing, effects_of, to_clients}
 
 -- ---- what a server is given
 
@@ -64,17 +77,57 @@ pub record IsDue (start : RoomMachine) (giver : Option ℕ) (machine : RoomMachi
   pub of_giver : IsOfGiver start giver doing
   pub can_be : CanBeDone machine doing
 
+-- ---- the effects of a client
+
+-- an invitation that is another server's to keep is not done here
+abbrev pub done_here : View → Effect → List Effect
+done_here view effect = if is_elsewhere view effect then [] else effect ∷ []
+
+abbrev pub all_done_here : View → List Effect → List Effect
+all_done_here view [] = []
+all_done_here view (effect ∷ effects) =
+    done_here view effect ++ all_done_here (view_after view effect) effects
+
+-- by a line of a user: those that are decided
+abbrev pub effects_of_user : View → Option User → Parsed → List Effect
+effects_of_user view None message = []
+effects_of_user view (Some user) message = all_done_here view
+    (effects_among (decide view.room (place_of view.routes) user.nick message).steps)
+
+-- by a line of a connection; by it somebody may become a user
+abbrev pub effects_of_line : View → Option Client → Parsed → List Effect
+effects_of_line view None message = []
+effects_of_line view (Some (Registering pending)) message =
+    effects_among (register view.room (place_of view.routes) pending message).steps
+effects_of_line view (Some (Registered nick)) message =
+    effects_of_user view (row view.room.users (key nick)) message
+
+-- by whatever a client does; who is gone quits, if it was a user
+abbrev pub effects_of_client : View → ClientEvent → List Effect
+effects_of_client view (connects conn host) = []
+effects_of_client view (says conn (Ok message)) =
+    effects_of_line view (client_of (machine_of view) conn) message
+effects_of_client view (says conn (Err why)) = []
+effects_of_client view (goes conn) = option_map_or (λ nick. Quit nick lost_text ∷ [])
+    (user_of view.room (client_of (machine_of view) conn)) []
+
+abbrev pub AreItsEffects : View → Given → List Effect → Type 0
+AreItsEffects view (an_event (of_client client_event)) effects =
+    effects ≡ effects_of_client view client_event
+AreItsEffects view other effects = ⊤
+
 -- ---- one thing that is given
 
 -- These are done by it, in order. The room machine that the server is to its clients is after it
 -- what these make of it; all that clients are sent by it is what the machine sends by these, in the
 -- same order; each is the doing of the client that gave it, or of none, and can be done in its
--- turn.
+-- turn. By a client just the effects are done that are decided of its line.
 pub record IsDoneBy (view : View) (given : Given) (doings : List Doing) : Type 0 where
   pub machine : machine_of (given_served view given).state
       ≡ machine_along (machine_of view) doings
   pub sent : to_clients (given_served view given).out ≡ sent_along (machine_of view) doings
   pub each : EachDoing (IsDue (machine_of view) (giver_of given)) (machine_of view) doings
+  pub effects : AreItsEffects view given (effects_of doings)
 
 pub record IsOneMachine (view : View) (given : Given) : Type 0 where
   pub doings : List Doing

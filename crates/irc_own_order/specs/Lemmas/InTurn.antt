@@ -3,6 +3,7 @@ use Rattle.std.proofs.Common.{◌≡◌, ℕ, Bool, true, false, Option, List, [
 use Rattle.std.proofs.Common.{◌∙◌, ap, append-nil, append_assoc, subst}
 use Rattle.std.specs.List.{list_any}
 use Rattle.irc_batch.specs.Batches.{Sent}
+use Rattle.irc_room.specs.effect.Effect.{Effect}
 use Rattle.irc_room.specs.InTurn.{after_all}
 use Rattle.irc_room.specs.Lemmas.RespelledRooms.{respelled_is_well_formed}
 use Rattle.irc_room.specs.Lemmas.WellFormedLaw.{after_is_well_formed}
@@ -115,7 +116,7 @@ pub record IsBetween (start : RoomMachine) (giver : Option ℕ) (s t : Served) :
   pub each : EachDoing (IsDue start giver) (machine_of s.state) doings
 
 module _ (start : RoomMachine) (giver : Option ℕ) where
-  pub nothing_between : (s t : Served) → machine_of t.state ≡ machine_of s.state
+  abbrev pub nothing_between : (s t : Served) → machine_of t.state ≡ machine_of s.state
       → to_clients t.out ≡ to_clients s.out → IsBetween start giver s t
   nothing_between s t same quiet = record {
     doings = [];
@@ -125,14 +126,14 @@ module _ (start : RoomMachine) (giver : Option ℕ) where
   }
 
   -- this much more is put out, none of it to clients
-  pub elsewhere : (s t : Served) (more : List Sent) → machine_of t.state ≡ machine_of s.state
+  abbrev pub elsewhere : (s t : Served) (more : List Sent) → machine_of t.state ≡ machine_of s.state
       → t.out ≡ s.out ++ more → to_clients more ≡ [] → IsBetween start giver s t
   elsewhere s t more same out none = nothing_between s t same
       (ap to_clients out ∙ to_clients-append s.out more
       ∙ ap (λ l. to_clients s.out ++ l) none ∙ append-nil (to_clients s.out))
 
   -- one thing is done
-  pub one_between : (s t : Served) (doing : Doing) (more : List Sent)
+  abbrev pub one_between : (s t : Served) (doing : Doing) (more : List Sent)
       → machine_of t.state ≡ machine_by doing (machine_of s.state) → t.out ≡ s.out ++ more
       → to_clients more ≡ sent_by doing (machine_of s.state)
       → IsDue start giver (machine_of s.state) doing → IsBetween start giver s t
@@ -145,7 +146,7 @@ module _ (start : RoomMachine) (giver : Option ℕ) where
     each = record { now = due; later = tt };
   }
 
-  pub then_between : (s t u : Served) → IsBetween start giver s t → IsBetween start giver t u
+  abbrev pub then_between : (s t u : Served) → IsBetween start giver s t → IsBetween start giver t u
       → IsBetween start giver s u
   then_between s t u one other = record {
     doings = one.doings ++ other.doings;
@@ -163,4 +164,25 @@ module _ (start : RoomMachine) (giver : Option ℕ) where
     each = each_doing-append (IsDue start giver) (machine_of s.state) one.doings other.doings
         one.each
         (subst (λ m. EachDoing (IsDue start giver) m other.doings) one.machine other.each);
+  }
+
+-- ---- the same, with these effects
+
+pub record IsBetweenBy (start : RoomMachine) (giver : Option ℕ) (effects : List Effect)
+    (s t : Served) : Type 0 where
+  pub between : IsBetween start giver s t
+  pub effects_are : effects_of between.doings ≡ effects
+
+module _ (start : RoomMachine) (giver : Option ℕ) where
+  pub quietly : (s t : Served) (between : IsBetween start giver s t)
+      → effects_of between.doings ≡ [] → IsBetweenBy start giver [] s t
+  quietly s t between none = record { between = between; effects_are = none }
+
+  pub then_by : (one other : List Effect) (s t u : Served) → IsBetweenBy start giver one s t
+      → IsBetweenBy start giver other t u → IsBetweenBy start giver (one ++ other) s u
+  then_by one other s t u first second = record {
+    between = then_between start giver s t u first.between second.between;
+    effects_are = effects_of-append first.between.doings second.between.doings
+        ∙ ap (λ l. l ++ effects_of second.between.doings) first.effects_are
+        ∙ ap (λ l. one ++ l) second.effects_are;
   }

@@ -1,6 +1,6 @@
 -- What comes by a link is done as one room machine does it.
 use Rattle.std.proofs.Common.{◌≡◌, ℕ, Bool, true, false, Option, None, List, [], ◌∷◌, ◌++◌, refl}
-use Rattle.std.proofs.Common.{sym, ◌∙◌, ap, append-nil, if◌then◌else◌}
+use Rattle.std.proofs.Common.{sym, ◌∙◌, ap, append-nil, subst, if◌then◌else◌}
 use Rattle.std.specs.Bool.{⊤}
 use Rattle.std.specs.List.{flat_map}
 use Rattle.irc_batch.specs.Batches.{Sent, end_of_link}
@@ -28,26 +28,26 @@ use Rattle.irc_server.specs.Moves.{IsServed, opens_link, refuses_link, ignores_l
 use Rattle.irc_server.specs.Moves.{closes_link, loses_link}
 use Rattle.irc_server.specs.Served.{ReadEvent, of_client}
 use Rattle.irc_own_order.specs.Doings.{an_effect, a_spelling, an_ending, a_place}
-use Rattle.irc_own_order.specs.OwnOrder.{IsOfGiver}
+use Rattle.irc_own_order.specs.OwnOrder.{IsOfGiver, done_here}
 use Rattle.irc_own_order.specs.Lemmas.ToClients.{none_on_links, none_on_link, viewers_are}
 use Rattle.irc_own_order.specs.Lemmas.ToClients.{ending_is}
 use Rattle.irc_own_order.specs.Lemmas.InTurn.{IsBetween, nothing_between, elsewhere, one_between}
-use Rattle.irc_own_order.specs.Lemmas.InTurn.{then_between}
+use Rattle.irc_own_order.specs.Lemmas.InTurn.{then_between, IsBetweenBy, quietly, then_by}
 
 -- ---- effects, whoever does them
 
 module _ (start : RoomMachine) (giver : Option ℕ) where
   -- an invitation that is another server's is not done here
-  pub changed_between : (effect : Effect) (s : Served) → IsPossible s.state.room effect
+  pub changed_by : (effect : Effect) (s : Served) → IsPossible s.state.room effect
       → IsOfGiver start giver (an_effect effect)
-      → IsBetween start giver s (changed effect s)
-  changed_between effect s can of_giver = by (is_elsewhere s.state effect) refl
+      → IsBetweenBy start giver (done_here s.state effect) s (changed effect s)
+  changed_by effect s can of_giver = by (is_elsewhere s.state effect) refl
     where
       shown : List Sent
       shown = flat_map (to_viewer s.state.clients) (seen s.state.room effect)
 
-      changed_by : Bool → Served
-      changed_by b = record {
+      served_by : Bool → Served
+      served_by b = record {
         state = record s.state {
           clients = clients_after effect s.state.clients;
           room = if b then s.state.room else after s.state.room effect;
@@ -56,31 +56,39 @@ module _ (start : RoomMachine) (giver : Option ℕ) where
       }
 
       by : (b : Bool) → is_elsewhere s.state effect ≡ b
-          → IsBetween start giver s (changed_by b)
-      by true is =
-          elsewhere start giver s (changed_by true) []
-          (ap (λ (clients : Clients). record {
-            place = place_of s.state.routes;
-            clients = clients;
-            room = s.state.room;
-          }) (same_clients_elsewhere s.state effect is)) refl refl
-      by false is =
-          one_between start giver s (changed_by false) (an_effect effect) shown refl refl
-          (viewers_are s.state.clients (seen s.state.room effect))
-          (record { of_giver = of_giver; can_be = can })
+          → IsBetweenBy start giver (if b then [] else effect ∷ []) s (served_by b)
+      by true is = record {
+        between = elsewhere start giver s (served_by true) []
+            (ap (λ (clients : Clients). record {
+              place = place_of s.state.routes;
+              clients = clients;
+              room = s.state.room;
+            }) (same_clients_elsewhere s.state effect is)) refl refl;
+        effects_are = refl;
+      }
+      by false is = record {
+        between = one_between start giver s (served_by false) (an_effect effect) shown refl refl
+            (viewers_are s.state.clients (seen s.state.room effect))
+            (record { of_giver = of_giver; can_be = can });
+        effects_are = refl;
+      }
 
   -- what it puts out on links is no client's
-  pub told_between : (arrival : Option ℕ) (effect : Effect) (s : Served)
+  pub told_by : (arrival : Option ℕ) (effect : Effect) (s : Served)
       → IsPossible s.state.room effect → IsOfGiver start giver (an_effect effect)
-      → IsBetween start giver s (effect_told arrival effect s)
-  told_between arrival effect s can of_giver =
-      then_between start giver s (changed effect s) (effect_told arrival effect s)
-      (changed_between effect s can of_giver)
-      (elsewhere start giver (changed effect s) (effect_told arrival effect s)
-      (on_links (ways_at s.state arrival effect) (wire s.state.room s.state.routes effect))
-      refl refl
+      → IsBetweenBy start giver (done_here s.state effect) s (effect_told arrival effect s)
+  told_by arrival effect s can of_giver =
+      let told = effect_told arrival effect s in
+      let lines = on_links (ways_at s.state arrival effect)
+      (wire s.state.room s.state.routes effect) in
+      subst (λ effects. IsBetweenBy start giver effects s told)
+      (append-nil (done_here s.state effect))
+      (then_by start giver (done_here s.state effect) [] s (changed effect s) told
+      (changed_by effect s can of_giver)
+      (quietly start giver (changed effect s) told
+      (elsewhere start giver (changed effect s) told lines refl refl
       (none_on_links (ways_at s.state arrival effect)
-      (wire s.state.room s.state.routes effect)))
+      (wire s.state.room s.state.routes effect))) refl))
 
 -- ---- moves of links
 
@@ -106,14 +114,14 @@ module _ (start : RoomMachine) where
   move_between (answers conn line by here) = absurd by
   move_between (does conn effect by) = absurd by
   move_between (comes {s} arrival effect by is) =
-      told_between start None arrival effect s (counted s.state effect is).0 tt
+      (told_by start None arrival effect s (counted s.state effect is).0 tt).between
   move_between (shows {s} arrival effect by is) =
-      changed_between start None effect s (counted s.state effect is).0 tt
+      (changed_by start None effect s (counted s.state effect is).0 tt).between
   move_between (takes_out {s} arrival nick words true by there) =
       then_between start None s (changed (Quit nick words) s)
       (client_ended nick words (changed (Quit nick words) s))
-      (changed_between start None (Quit nick words) s
-      (quit_possible s.state.room nick words there) tt)
+      (changed_by start None (Quit nick words) s
+      (quit_possible s.state.room nick words there) tt).between
       (ended_between nick words (changed (Quit nick words) s))
   move_between (takes_out {s} arrival nick words false by there) = ended_between nick words s
   move_between (tells_on {s} arrival parts by) =

@@ -26,7 +26,7 @@ use Rattle.irc_own_order.specs.Doings.{to_clients}
 use Rattle.irc_own_order.specs.OwnOrder.{Given, an_event, a_line_that_sets, given_served}
 use Rattle.irc_own_order.specs.OwnOrder.{giver_of, IsDoneBy, IsOneMachine, after_given, put_out}
 use Rattle.irc_own_order.specs.OwnOrder.{AreDoneBy, AreOneMachine, CanBeDone, all_of}
-use Rattle.irc_own_order.specs.OwnOrder.{IsDue}
+use Rattle.irc_own_order.specs.OwnOrder.{IsDue, AreItsEffects}
 use Rattle.irc_own_order.specs.Laws.{ServedIsOneMachine, ServersAreOneMachine, NewIsWellFormed}
 use Rattle.irc_own_order.specs.Laws.{EffectsAreInOrder, FallsInTwo, HandledIsOneMachine}
 use Rattle.irc_own_order.specs.Laws.{DoesAsOneMachine, ChangesNothing}
@@ -35,37 +35,47 @@ use Rattle.irc_own_order.specs.Lemmas.InTurn.{IsBetween, due_can_be, each_doing-
 use Rattle.irc_own_order.specs.Lemmas.InTurn.{effects_of-append, machine_along-append}
 use Rattle.irc_own_order.specs.Lemmas.InTurn.{sent_along-append, well_along}
 use Rattle.irc_own_order.specs.Lemmas.LinksDo.{link_between}
-use Rattle.irc_own_order.specs.Lemmas.ClientsDo.{client_between}
+use Rattle.irc_own_order.specs.Lemmas.ClientsDo.{client_by}
 
 -- ---- one thing
 
-between_given : DecidedIsPossible → DecidedByItself → RegisteringIsPossible → RegisteredIsAdded
-    → UnregisteredChangesNothing → (view : View) (given : Given) → IsWellFormed view.room
-    → IsBetween (machine_of view) (giver_of given) (in_silence view) (given_served view given)
-unfolding served
-between_given possible itself registering added unchanging view
-    (an_event (of_client client_event)) well =
-    client_between possible itself registering added unchanging view well client_event
-between_given possible itself registering added unchanging view
-    (an_event (link_up link starts)) well =
-    link_between (machine_of view) tt (served_by_moves view (link_up link starts))
-between_given possible itself registering added unchanging view
-    (an_event (link_says link read)) well =
-    link_between (machine_of view) tt (served_by_moves view (link_says link read))
-between_given possible itself registering added unchanging view
-    (an_event (link_down link)) well =
-    link_between (machine_of view) tt (served_by_moves view (link_down link))
-between_given possible itself registering added unchanging view
-    (a_line_that_sets link read) well =
-    link_between (machine_of view) tt (set_by_moves view link read (get view.ends link) refl)
+done_between : (view : View) (given : Given)
+    (between : IsBetween (machine_of view) (giver_of given) (in_silence view)
+    (given_served view given)) → AreItsEffects view given (effects_of between.doings)
+    → IsOneMachine view given
+done_between view given between effects = record {
+  doings = between.doings;
+  is_done = record {
+    machine = between.machine;
+    sent = between.sent;
+    each = between.each;
+    effects = effects;
+  };
+}
 
 pub served_is_one_machine : DecidedIsPossible → DecidedByItself → RegisteringIsPossible
     → RegisteredIsAdded → UnregisteredChangesNothing → ServedIsOneMachine
-served_is_one_machine possible itself registering added unchanging view given well =
-    let so = between_given possible itself registering added unchanging view given well in record {
-      doings = so.doings;
-      is_done = record { machine = so.machine; sent = so.sent; each = so.each };
-    }
+unfolding served
+served_is_one_machine possible itself registering added unchanging view
+    (an_event (of_client client_event)) well =
+    let so = client_by possible itself registering added unchanging view well client_event in
+    done_between view (an_event (of_client client_event)) so.between so.effects_are
+served_is_one_machine possible itself registering added unchanging view
+    (an_event (link_up link starts)) well =
+    done_between view (an_event (link_up link starts))
+    (link_between (machine_of view) tt (served_by_moves view (link_up link starts))) tt
+served_is_one_machine possible itself registering added unchanging view
+    (an_event (link_says link read)) well =
+    done_between view (an_event (link_says link read))
+    (link_between (machine_of view) tt (served_by_moves view (link_says link read))) tt
+served_is_one_machine possible itself registering added unchanging view
+    (an_event (link_down link)) well =
+    done_between view (an_event (link_down link))
+    (link_between (machine_of view) tt (served_by_moves view (link_down link))) tt
+served_is_one_machine possible itself registering added unchanging view
+    (a_line_that_sets link read) well =
+    done_between view (a_line_that_sets link read)
+    (link_between (machine_of view) tt (set_by_moves view link read (get view.ends link) refl)) tt
 
 -- the room stays well formed
 well_behind : (view : View) (given : Given) (doings : List Doing) → IsDoneBy view given doings
