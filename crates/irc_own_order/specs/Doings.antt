@@ -12,7 +12,7 @@
 --   connection 3 connects           a_client 3, who has given nothing
 --   connection 1 is gone            a_departure 1, an_effect (Quit al ..)
 --   al says `QUIT`                  an_effect (Quit al ..), an_answer 1 ERROR, a_closing 1: end_of 1
-use Rattle.std.specs.Prelude.{ℕ, ⊤, Bool, true, false, Option, Some, None, List, [], ◌∷◌, ◌++◌}
+use Rattle.std.specs.Prelude.{ℕ, ⊤, Bool, true, false, List, [], ◌∷◌, ◌++◌, nat_eq}
 use Rattle.std.specs.FinMap.{retain_keys}
 use Rattle.std.specs.List.{filter, flat_map}
 use Rattle.irc_batch.specs.Batches.{Sent, line_to, end_of, line_on, end_of_link}
@@ -104,6 +104,11 @@ effects_of (doing ∷ doings) = effects_of doings
 abbrev pub is_spelling : Doing → Bool
 is_spelling (a_spelling channel) = true
 is_spelling doing = false
+
+-- whether it is an answer to this client
+abbrev pub is_answer_to : ℕ → Doing → Bool
+is_answer_to conn (an_answer to line) = nat_eq to conn
+is_answer_to conn doing = false
 
 -- what of all that is put out goes to clients
 abbrev pub is_to_client : Sent → Bool

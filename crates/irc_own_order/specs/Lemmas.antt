@@ -4,3 +4,4 @@ pub mod InTurn
 pub mod LinksDo
 pub mod ClientsDo
 pub mod OverAll
+pub mod Histories

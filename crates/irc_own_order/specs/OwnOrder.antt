@@ -55,10 +55,12 @@ giver_of other = None
 -- ---- what may be done by it
 
 -- An effect by a client is done by the user that it is; who registers is none yet.
+abbrev pub IsOfItsUser : RoomMachine → Option ℕ → Effect → Type 0
+IsOfItsUser start None effect = ⊤
+IsOfItsUser start (Some conn) effect = doer_of effect ≡ user_of start.room (client_of start conn)
+
 abbrev pub IsOfGiver : RoomMachine → Option ℕ → Doing → Type 0
-IsOfGiver start None (an_effect effect) = ⊤
-IsOfGiver start (Some conn) (an_effect effect) =
-    doer_of effect ≡ user_of start.room (client_of start conn)
+IsOfGiver start giver (an_effect effect) = IsOfItsUser start giver effect
 IsOfGiver start giver (an_answer conn line) = giver ≡ Some conn
 IsOfGiver start giver (a_client conn client) = giver ≡ Some conn
 IsOfGiver start giver (a_departure conn) = giver ≡ Some conn

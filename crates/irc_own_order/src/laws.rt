@@ -1,8 +1,9 @@
 //! A server is one room machine to its clients, by what is done in its own order.
 
-ghost use Rattle.irc_own_order.specs.Laws.{EffectsAreInOrder, HandledIsOneMachine};
+ghost use Rattle.irc_own_order.specs.Laws.{AnswersAreItsOwn, EffectsAreInOrder};
+ghost use Rattle.irc_own_order.specs.Laws.{HandledIsOneMachine, IsMachineOfHandled};
 ghost use Rattle.irc_own_order.specs.Laws.{NewIsWellFormed, RoomIsOfEffects, ServedIsOneMachine};
-ghost use Rattle.irc_own_order.specs.Laws.{ServersAreOneMachine};
+ghost use Rattle.irc_own_order.specs.Laws.{RunIsOneMachine, ServersAreOneMachine};
 ghost use Rattle.irc_commands.specs.Comings.{RegisteredIsAdded, UnregisteredChangesNothing};
 ghost use Rattle.irc_commands.specs.Doers.{DecidedByItself};
 ghost use Rattle.irc_commands.specs.Possible.{DecidedIsPossible, RegisteringIsPossible};
@@ -34,6 +35,24 @@ pub fn servers_are_one_machine()
 {
     served_is_one_machine();
 }
+
+/// So it is of the code: a server that has handled events and lines by which it sets, one after
+/// another.
+pub fn run_is_one_machine()
+    ensures { RunIsOneMachine }
+{
+    servers_are_one_machine();
+}
+
+/// A client is sent no answer by what others do.
+pub fn answers_are_its_own()
+    ensures { AnswersAreItsOwn }
+{}
+
+/// It is the machine that a server without links is.
+pub fn is_machine_of_handled()
+    ensures { IsMachineOfHandled }
+{}
 
 /// A new server has a well-formed room.
 pub fn new_is_well_formed()
