@@ -27,7 +27,7 @@ use Rattle.irc_stage.specs.RoomMachine.{RoomMachine, client_of}
 use Rattle.irc_stage.specs.Handle.{ClientEvent, connects, says, goes, lost_text, user_of}
 use Rattle.irc_stage.specs.EffectTold.{Served, is_elsewhere, view_after}
 use Rattle.irc_stage.specs.View.{View, machine_of}
-use Rattle.irc_server.specs.Served.{ReadEvent, of_client, link_up, link_says, link_down, served}
+use Rattle.irc_server.specs.Served.{ReadEvent, of_client, served}
 use Rattle.irc_server.specs.LinesThatSet.{line_set}
 use Rattle.irc_server.specs.Owed.{lines_to}
 use Rattle.irc_own_order.specs.Doings.{Doing, an_effect, a_spelling, an_answer, a_client}

@@ -1,7 +1,6 @@
 -- What a client does is done as one room machine does it.
-use Rattle.std.proofs.Common.{◌≡◌, ℕ, Bool, true, false, Option, Some, None, Result, Ok, Err, List}
+use Rattle.std.proofs.Common.{◌≡◌, ℕ, Bool, true, false, Option, Some, None, Ok, Err, List}
 use Rattle.std.proofs.Common.{[], ◌∷◌, refl, sym, ◌∙◌, ap, append-nil, subst, option_map}
-use Rattle.std.specs.FinMap.{get}
 use Rattle.std.specs.List.{AllByRecursion, list_any}
 use Rattle.std.specs.Option.{option_map_or}
 use Rattle.irc_line.specs.Messages.{Parsed}

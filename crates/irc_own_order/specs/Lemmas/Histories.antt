@@ -6,7 +6,6 @@ use Rattle.std.proofs.lemmas.List.{append_cancel_left}
 use Rattle.std.specs.List.{list_any}
 use Rattle.irc_batch.specs.Batches.{Sent}
 use Rattle.irc_line.specs.Reading.{read_of}
-use Rattle.irc_room.specs.Room.{IsWellFormed}
 use Rattle.irc_stage.specs.RoomMachine.{RoomMachine}
 use Rattle.irc_stage.specs.View.{View, machine_of}
 use Rattle.irc_server.specs.declared.event.Event.{Event}
@@ -21,7 +20,7 @@ use Rattle.irc_own_order.specs.Doings.{is_answer_to, machine_by}
 use Rattle.irc_own_order.specs.OwnOrder.{Given, an_event, a_line_that_sets, IsDue, after_given}
 use Rattle.irc_own_order.specs.OwnOrder.{given_served, giver_of, put_out}
 use Rattle.irc_own_order.specs.Laws.{AnswersAreItsOwn, HasRun, begins, handles, sets}
-use Rattle.irc_own_order.specs.Laws.{IsMachineOfHandled, RunIsOneMachine, RunsAsOneMachine}
+use Rattle.irc_own_order.specs.Laws.{IsMachineOfHandled, RunIsOneMachine}
 use Rattle.irc_own_order.specs.Laws.{ServersAreOneMachine}
 
 -- ---- answers

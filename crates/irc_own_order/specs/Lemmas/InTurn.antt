@@ -1,10 +1,8 @@
 -- What holds of what is done, one thing after another.
-use Rattle.std.proofs.Common.{◌≡◌, ℕ, Bool, true, false, Option, List, [], ◌∷◌, ◌++◌, refl, sym}
+use Rattle.std.proofs.Common.{◌≡◌, ℕ, Option, List, [], ◌∷◌, ◌++◌, refl, sym}
 use Rattle.std.proofs.Common.{◌∙◌, ap, append-nil, append_assoc, subst}
-use Rattle.std.specs.List.{list_any}
 use Rattle.irc_batch.specs.Batches.{Sent}
 use Rattle.irc_room.specs.effect.Effect.{Effect}
-use Rattle.irc_room.specs.InTurn.{after_all}
 use Rattle.irc_room.specs.Lemmas.RespelledRooms.{respelled_is_well_formed}
 use Rattle.irc_room.specs.Lemmas.WellFormedLaw.{after_is_well_formed}
 use Rattle.irc_room.specs.Room.{IsWellFormed}
@@ -14,7 +12,7 @@ use Rattle.irc_stage.specs.View.{machine_of}
 use Rattle.irc_own_order.specs.Doings.{Doing, an_effect, a_spelling, an_answer, a_client}
 use Rattle.irc_own_order.specs.Doings.{a_departure, a_closing, an_ending, a_place, machine_by}
 use Rattle.irc_own_order.specs.Doings.{machine_along, sent_by, sent_along, EachDoing, effects_of}
-use Rattle.irc_own_order.specs.Doings.{is_spelling, to_clients}
+use Rattle.irc_own_order.specs.Doings.{to_clients}
 use Rattle.irc_own_order.specs.OwnOrder.{CanBeDone, IsDue}
 use Rattle.irc_own_order.specs.Laws.{RoomIsOfEffects}
 use Rattle.irc_own_order.specs.Lemmas.ToClients.{to_clients-append}

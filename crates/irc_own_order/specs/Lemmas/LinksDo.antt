@@ -5,14 +5,13 @@ use Rattle.std.specs.Bool.{⊤}
 use Rattle.std.specs.List.{flat_map}
 use Rattle.irc_batch.specs.Batches.{Sent, end_of_link}
 use Rattle.irc_commands.specs.Closing.{error_line}
-use Rattle.irc_line.specs.Messages.{Written}
 use Rattle.irc_link_writer.specs.Written.{wire}
 use Rattle.irc_room.specs.After.{after}
 use Rattle.irc_room.specs.effect.Effect.{Effect}
 use Rattle.irc_room.specs.effect.Effect.TheVariants.{Quit}
 use Rattle.irc_room.specs.Effects.{IsPossible}
 use Rattle.irc_room.specs.Seen.{seen}
-use Rattle.irc_routes.specs.Known.{added, place_of, without_link, without_server}
+use Rattle.irc_routes.specs.Known.{place_of}
 use Rattle.irc_stage.specs.RoomMachine.{Clients, RoomMachine}
 use Rattle.irc_stage.specs.Handle.{clients_after, to_viewer}
 use Rattle.irc_stage.specs.EffectTold.{Served, changed, client_ended, effect_told, ends_of}

@@ -24,11 +24,11 @@ use Rattle.irc_server.specs.Served.{of_client, link_up, link_says, link_down, se
 use Rattle.irc_own_order.specs.Doings.{Doing, EachDoing, effects_of, machine_along, sent_along}
 use Rattle.irc_own_order.specs.Doings.{to_clients}
 use Rattle.irc_own_order.specs.OwnOrder.{Given, an_event, a_line_that_sets, given_served}
-use Rattle.irc_own_order.specs.OwnOrder.{giver_of, IsDoneBy, IsOneMachine, after_given, put_out}
-use Rattle.irc_own_order.specs.OwnOrder.{AreDoneBy, AreOneMachine, CanBeDone, all_of}
-use Rattle.irc_own_order.specs.OwnOrder.{IsDue, AreItsEffects}
+use Rattle.irc_own_order.specs.OwnOrder.{giver_of, IsDoneBy, IsOneMachine, put_out}
+use Rattle.irc_own_order.specs.OwnOrder.{AreOneMachine, CanBeDone, all_of}
+use Rattle.irc_own_order.specs.OwnOrder.{AreItsEffects}
 use Rattle.irc_own_order.specs.Laws.{ServedIsOneMachine, ServersAreOneMachine, NewIsWellFormed}
-use Rattle.irc_own_order.specs.Laws.{EffectsAreInOrder, FallsInTwo, HandledIsOneMachine}
+use Rattle.irc_own_order.specs.Laws.{EffectsAreInOrder, HandledIsOneMachine}
 use Rattle.irc_own_order.specs.Laws.{DoesAsOneMachine, ChangesNothing}
 use Rattle.irc_own_order.specs.Lemmas.ToClients.{lines_are, to_clients-append}
 use Rattle.irc_own_order.specs.Lemmas.InTurn.{IsBetween, due_can_be, each_doing-append}

@@ -1,6 +1,6 @@
 -- Which part of what is put out goes to clients.
-use Rattle.std.proofs.Common.{◌≡◌, ℕ, Bool, true, false, cond, Option, Some, None, List, [], ◌∷◌}
-use Rattle.std.proofs.Common.{◌++◌, refl, ◌∙◌, ap, map, filter, filter_map, nat_eq}
+use Rattle.std.proofs.Common.{◌≡◌, ℕ, Bool, true, false, cond, Some, None, List, [], ◌∷◌}
+use Rattle.std.proofs.Common.{◌++◌, refl, ◌∙◌, ap, map, filter_map}
 use Rattle.std.proofs.Common.{if◌then◌else◌}
 use Rattle.std.specs.FinMap.{entries}
 use Rattle.std.specs.List.{cons_option, flat_map}
