@@ -8,11 +8,11 @@
 --   `:bo PART #c :x` by link 2      an_effect (Part bo #c x): line_to 1 `:bo!u@h PART #c :x`
 --   `:b.net NJOIN #C :@dy` by 2     a_spelling #C, an_effect (Join dy #C), and of its MODE
 --   `:b.net KILL al :Nick collision` by 2
---                                   an_effect (Quit al ..), an_ending al ..: line_to 1 ERROR, end_of 1
+--                                   an_effect (Quit al ..), an_ending al: line_to 1 ERROR, end_of 1
 --   `:b.net SERVER c.net 2 2 :C`    a_place: one server more is known
 --   connection 3 connects           a_client 3, who has given nothing
 --   connection 1 is gone            a_departure 1, an_effect (Quit al ..)
---   al says `QUIT`                  an_effect (Quit al ..), an_answer 1 ERROR, a_closing 1: end_of 1
+--   al says `QUIT`                  an_effect (Quit al ..), an_answer 1 ERROR, a_closing 1
 use Rattle.std.specs.Prelude.{ℕ, ⊤, Bool, true, false, List, [], ◌∷◌, ◌++◌, nat_eq}
 use Rattle.std.specs.FinMap.{retain_keys}
 use Rattle.std.specs.List.{filter, flat_map}

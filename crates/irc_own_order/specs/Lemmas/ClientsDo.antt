@@ -32,7 +32,8 @@ use Rattle.irc_stage.specs.Handle.{ClientEvent, connects, says, goes, client_aft
 use Rattle.irc_stage.specs.Handle.{lost_text, machine_after, user_of}
 use Rattle.irc_stage.specs.EffectTold.{Served, in_silence, view_after, with_sent}
 use Rattle.irc_stage.specs.ClientTold.{client_told, closed_told, given_told, message_told}
-use Rattle.irc_stage.specs.ClientTold.{quit_told, seated, step_told, steps_told, unseated, user_told}
+use Rattle.irc_stage.specs.ClientTold.{quit_told, seated, step_told, steps_told, unseated}
+use Rattle.irc_stage.specs.ClientTold.{user_told}
 use Rattle.irc_stage.specs.Lemmas.MatchedEvents.{quit_possible}
 use Rattle.irc_stage.specs.Lemmas.Twins.{AreTwins, are_its_twins, effect_twins}
 use Rattle.irc_stage.specs.Loops.Parts.{AreInTurnAt}
