@@ -1,0 +1,4 @@
+pub mod Doings
+pub mod OwnOrder
+pub mod Laws
+pub mod Lemmas
