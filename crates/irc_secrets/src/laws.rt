@@ -1,0 +1,50 @@
+//! What effects show of a channel to a user outside of it.
+
+ghost use Rattle.irc_secrets.specs.Laws.{BothStayAlike, ButForIsEquivalence, ChannelShowsNothing};
+ghost use Rattle.irc_secrets.specs.Laws.{InvitedIsShown, JoinerIsShown, ListsShowAlike};
+ghost use Rattle.irc_secrets.specs.Laws.{OneStaysAlike, OthersShowAlike, OutsiderStaysOutside};
+
+use irc_effects::laws as room_laws;
+
+/// To be alike but for a channel is an equivalence of rooms, and a room is so to what it is without
+/// that channel.
+pub fn but_for_is_equivalence()
+    ensures { ButForIsEquivalence }
+{}
+
+/// Two rooms stay alike but for a channel by whatever is done in both, and by whatever is done in
+/// that channel in one of them.
+pub fn rooms_stay_alike()
+    ensures both { BothStayAlike }
+    ensures one { OneStaysAlike }
+{}
+
+/// An effect in a channel shows nothing to one who is no member: no line of a Join, a Part, a Kick,
+/// of modes, of the topic or of what is said there.
+pub fn channel_shows_nothing()
+    ensures { ChannelShowsNothing }
+{}
+
+/// The exceptions: an invitation shows the invited the channel's name, and who joins is shown it.
+pub fn invited_and_joiner_are_shown()
+    ensures invited { InvitedIsShown }
+    ensures joiner { JoinerIsShown }
+{}
+
+/// Any other effect shows one who is no member the same line, whatever the channel is, and also
+/// where a member of it takes another nickname or leaves.
+pub fn others_show_alike()
+    ensures { OthersShowAlike }
+{}
+
+/// A user outside of a secret channel stays so while nothing is done in that channel.
+pub fn outsider_stays_outside()
+    ensures { OutsiderStaysOutside }
+{}
+
+/// What is done in a channel, and how much, changes no line of one who stays outside of it.
+pub fn lists_show_alike()
+    ensures { ListsShowAlike }
+{
+    room_laws::after_is_well_formed();
+}
