@@ -1,6 +1,6 @@
 -- Names that are not the same, and rows of rooms that are alike but for one channel.
 use Rattle.std.proofs.Common.{◌≡◌, ℕ, Bool, true, false, List, refl, sym, ◌∙◌, ap}
-use Rattle.std.specs.Prelude.{◌≢◌, ⊥}
+use Rattle.std.specs.Prelude.{◌≢◌}
 use Rattle.irc_names.specs.Fold.{key, same}
 use Rattle.irc_names.specs.FoldLaws.{same-tells}
 use Rattle.irc_names.specs.Tables.{row}
@@ -9,8 +9,8 @@ use Rattle.irc_effects.specs.Room.{Room}
 use Rattle.irc_secrets.specs.ButForOne.{AreAlikeButFor}
 
 pub not_both : (b : Bool) → b ≡ true → b ≡ false → ⊥
-not_both true yes no = cc no
-not_both false yes no = cc yes
+not_both true is none = cc none
+not_both false is none = cc is
 
 -- two names that are not the same have two folds
 pub unlike : (one other : List ℕ) → same one other ≡ false → key other ≢ key one

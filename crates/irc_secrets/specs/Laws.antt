@@ -9,7 +9,7 @@ use Rattle.irc_users.specs.declared.user.User.{User}
 use Rattle.irc_effects.specs.declared.effect.Effect.{Effect}
 use Rattle.irc_effects.specs.declared.effect.Effect.TheVariants.{Join, Invite}
 use Rattle.irc_effects.specs.Room.{Room, IsWellFormed}
-use Rattle.irc_effects.specs.Effects.{IsPossible, is_idle}
+use Rattle.irc_effects.specs.Effects.{IsPossible, has_user, is_idle}
 use Rattle.irc_effects.specs.After.{after}
 use Rattle.irc_effects.specs.Seen.{Showing, seen, full_sender, stored_channel}
 use Rattle.irc_effects.specs.Viewers.{shows_to}
@@ -84,11 +84,11 @@ OneStaysAlike = (channel : List ℕ) (one other : Room) (effect : Effect)
     → AreAlikeButFor channel one other → is_in channel effect ≡ true
     → AreAlikeButFor channel (after one effect) other
 
--- no effect but those in a channel ends that a user is outside of it
+-- no effect but those in a channel ends that one of the users is outside of it
 abbrev pub OutsiderStaysOutside : Type 0
 OutsiderStaysOutside = (viewer channel : List ℕ) (room : Room) (effect : Effect)
-    → IsWellFormed room → IsPossible room effect → IsOutsider viewer channel room
-    → is_in channel effect ≡ false
+    → IsWellFormed room → IsPossible room effect → has_user room viewer ≡ true
+    → IsOutsider viewer channel room → is_in channel effect ≡ false
     → IsOutsider (nick_after viewer effect) channel (after room effect)
 
 -- Two lists of effects that are one list once those in the channel are left out show the same lines,
