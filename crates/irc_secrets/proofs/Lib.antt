@@ -5,3 +5,4 @@ pub mod OthersShown
 pub mod RowAfter
 pub mod StillOutside
 pub mod ListsShown
+pub mod FromTheStart

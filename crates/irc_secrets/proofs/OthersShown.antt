@@ -23,7 +23,7 @@ use Rattle.irc_effects.specs.Seen.{line_from, from_nick, from_by, changes_words}
 use Rattle.irc_effects.specs.Viewers.{line_for, shows_to}
 use Rattle.irc_secrets.specs.ButForOne.{AreAlikeButFor, IsNoMember}
 use Rattle.irc_secrets.specs.Outside.{is_in}
-use Rattle.irc_secrets.specs.Laws.{IsShownAlike, OthersShowAlike}
+use Rattle.irc_secrets.specs.Laws.{IsShownAlike, OthersShowAlike, SharesAlike}
 use Rattle.irc_secrets.proofs.Unlike.{not_both, other_row}
 
 same_answer : (a b : Bool) → (a ≡ true → b ≡ true) → (b ≡ true → a ≡ true) → a ≡ b
@@ -59,6 +59,10 @@ share_same channel viewer one other alike out other_out nick stored named =
     (shared_too channel viewer one other alike out nick stored named)
     (shared_too channel viewer other one (turned channel one other alike) other_out nick stored
     named)
+
+pub shares_alike : SharesAlike
+shares_alike channel viewer one other alike out other_out nick =
+    share_same channel viewer one other alike out other_out nick viewer refl
 
 module _ (channel viewer : List ℕ) (one : Room) (channels : Table Channel) where
   abbrev other : Room

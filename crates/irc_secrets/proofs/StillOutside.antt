@@ -15,10 +15,10 @@ use Rattle.irc_channels.specs.Channels.{has_member, without_user, renamed}
 use Rattle.irc_effects.specs.declared.effect.Effect.{Effect}
 use Rattle.irc_effects.specs.declared.effect.Effect.TheVariants.{Rename, Quit}
 use Rattle.irc_effects.specs.Room.{Room, IsWellFormed}
-use Rattle.irc_effects.specs.Effects.{IsPossible, has_user, is_member}
+use Rattle.irc_effects.specs.Effects.{IsPossible, has_user}
 use Rattle.irc_effects.specs.After.{after}
 use Rattle.irc_effects.specs.Lemmas.Members.{is_member_of, member_while, taken_out, moved_row}
-use Rattle.irc_secrets.specs.ButForOne.{IsOutsider, is_secret_or_none}
+use Rattle.irc_secrets.specs.ButForOne.{IsNoMember, IsOutsider}
 use Rattle.irc_secrets.specs.Outside.{is_in, nick_after}
 use Rattle.irc_secrets.specs.Laws.{OutsiderStaysOutside}
 use Rattle.irc_secrets.proofs.Unlike.{not_both}
@@ -89,29 +89,37 @@ by_rename nick new viewer channel free other out false two =
     by false apart true out = refl
     by false apart false out = out
 
-still_no_member : (viewer channel : List ℕ) (room : Room) (effect : Effect) → IsWellFormed room
+-- of the row that an effect makes of a channel's row
+no_member_of : (viewer channel : List ℕ) (room : Room) (effect : Effect) → IsWellFormed room
     → IsPossible room effect → has_user room viewer ≡ true → (found : Option Channel)
     → row room.channels (key channel) ≡ found → is_member_of (key viewer) found ≡ false
     → is_member_of (key (nick_after viewer effect)) (option_and_then (row_change effect) found)
     ≡ false
-still_no_member viewer channel room effect well possible there None at out = refl
-still_no_member viewer channel room (Rename nick new) well possible there (Some c) at out =
+no_member_of viewer channel room effect well possible there None at out = refl
+no_member_of viewer channel room (Rename nick new) well possible there (Some c) at out =
     by_rename nick new viewer c
     (λ member. only_own room nick new possible.nick_free
     ((well.channels_sound (key channel) c at).members_known (key new) member))
     (λ equal. only_own room nick new possible.nick_free
     (ap (λ fold. is_some (row room.users fold)) (sym equal) ∙ there))
     out (same nick viewer) refl
-still_no_member viewer channel room (Quit nick text) well possible there (Some c) at out =
+no_member_of viewer channel room (Quit nick text) well possible there (Some c) at out =
     by_quit (key viewer) (key nick) c out
-still_no_member viewer channel room other well possible there (Some c) at out = out
+no_member_of viewer channel room other well possible there (Some c) at out = out
+
+pub still_no_member : (viewer channel : List ℕ) (room : Room) (effect : Effect) → IsWellFormed room
+    → IsPossible room effect → has_user room viewer ≡ true → IsNoMember viewer channel room
+    → is_in channel effect ≡ false
+    → IsNoMember (nick_after viewer effect) channel (after room effect)
+still_no_member viewer channel room effect well possible there out two =
+    ap (is_member_of (key (nick_after viewer effect))) (row_after channel room effect two)
+    ∙ no_member_of viewer channel room effect well possible there
+    (row room.channels (key channel)) refl out
 
 pub outsider_stays_outside : OutsiderStaysOutside
 outsider_stays_outside viewer channel room effect well possible there outsider two = record {
   hidden = ap hides (row_after channel room effect two)
       ∙ still_hidden effect (row room.channels (key channel)) outsider.hidden;
-  no_member = ap (is_member_of (key (nick_after viewer effect)))
-      (row_after channel room effect two)
-      ∙ still_no_member viewer channel room effect well possible there
-      (row room.channels (key channel)) refl outsider.no_member;
+  no_member =
+      still_no_member viewer channel room effect well possible there outsider.no_member two;
 }

@@ -1,8 +1,7 @@
 -- What effects show of a channel to a user outside of it. Of none of these laws the channel has to
 -- be secret: an effect is shown to members, and so they hold of any.
 use Rattle.std.specs.Prelude.{◌≡◌, ◌↔◌, ℕ, Bool, true, false, Some, None, List, [], ◌∷◌, codes}
-use Rattle.std.specs.Prelude.{filter}
-use Rattle.irc_names.specs.Fold.{key, same}
+use Rattle.irc_names.specs.Fold.{key}
 use Rattle.irc_names.specs.Tables.{row}
 use Rattle.irc_line.specs.Messages.{text}
 use Rattle.irc_users.specs.declared.user.User.{User}
@@ -11,11 +10,11 @@ use Rattle.irc_effects.specs.declared.effect.Effect.TheVariants.{Join, Invite}
 use Rattle.irc_effects.specs.Room.{Room, IsWellFormed}
 use Rattle.irc_effects.specs.Effects.{IsPossible, has_user, is_idle}
 use Rattle.irc_effects.specs.After.{after}
-use Rattle.irc_effects.specs.Seen.{Showing, seen, full_sender, stored_channel}
+use Rattle.irc_effects.specs.Seen.{full_sender, share_channel, stored_channel}
 use Rattle.irc_effects.specs.Viewers.{shows_to}
 use Rattle.irc_secrets.specs.ButForOne.{AreAlikeButFor, without, IsNoMember, IsOutsider}
 use Rattle.irc_secrets.specs.Outside.{is_in, is_for, nick_after, lines_to, StaysOutside}
-use Rattle.irc_secrets.specs.Outside.{others_than}
+use Rattle.irc_secrets.specs.Outside.{LeaveOutside, others_than}
 
 -- A room is alike to itself but for a channel, and so is it to the room without that channel; two
 -- rooms are so whichever is named first, and two that are so with a third.
@@ -58,6 +57,12 @@ JoinerIsShown = (room : Room) (nick channel : List ℕ) (op : Bool) (joiner : Us
       last = None;
     }))
 
+-- Who is a member in neither shares a channel with somebody in both or in none.
+abbrev pub SharesAlike : Type 0
+SharesAlike = (channel viewer : List ℕ) (one other : Room) → AreAlikeButFor channel one other
+    → IsNoMember viewer channel one → IsNoMember viewer channel other → (nick : List ℕ)
+    → share_channel one nick viewer ≡ share_channel other nick viewer
+
 -- what one effect, which is not in the channel, is in both rooms, and shows one user there
 pub record IsShownAlike (viewer : List ℕ) (one other : Room) (effect : Effect) : Type 0 where
   pub possible : IsPossible one effect ↔ IsPossible other effect
@@ -90,6 +95,13 @@ OutsiderStaysOutside = (viewer channel : List ℕ) (room : Room) (effect : Effec
     → IsWellFormed room → IsPossible room effect → has_user room viewer ≡ true
     → IsOutsider viewer channel room → is_in channel effect ≡ false
     → IsOutsider (nick_after viewer effect) channel (after room effect)
+
+-- One of the users who is no member at the start, and then neither joins, nor is invited, nor leaves,
+-- stays outside of the channel, whatever else is done in it.
+abbrev pub OutsideFromTheStart : Type 0
+OutsideFromTheStart = (viewer channel : List ℕ) (room : Room) (effects : List Effect)
+    → IsWellFormed room → has_user room viewer ≡ true → IsNoMember viewer channel room
+    → LeaveOutside viewer channel room effects → StaysOutside viewer channel room effects
 
 -- Two lists of effects that are one list once those in the channel are left out show the same lines,
 -- in order, to one who is outside of it all along.

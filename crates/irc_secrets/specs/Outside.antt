@@ -4,7 +4,7 @@ use Rattle.std.specs.Prelude.{◌++◌, ⊤, filter, option_to_list, if◌then�
 use Rattle.std.specs.Option.{option_map_or}
 use Rattle.irc_names.specs.Fold.{same}
 use Rattle.irc_effects.specs.declared.effect.Effect.{Effect}
-use Rattle.irc_effects.specs.declared.effect.Effect.TheVariants.{Rename, Join, Part, Kick}
+use Rattle.irc_effects.specs.declared.effect.Effect.TheVariants.{Rename, Quit, Join, Part, Kick}
 use Rattle.irc_effects.specs.declared.effect.Effect.TheVariants.{ChangeModes, SetTopic, Say, Invite}
 use Rattle.irc_effects.specs.declared.effect.Target.TheVariants as target
 use Rattle.irc_effects.specs.Room.{Room}
@@ -60,6 +60,24 @@ StaysOutside viewer channel room [] = ⊤
 StaysOutside viewer channel room (effect ∷ effects) =
     IsSoFirst (IsOutsideAt viewer channel room effect)
     (StaysOutside (nick_after viewer effect) channel (after room effect) effects)
+
+-- whether a user leaves by it
+abbrev pub ends : List ℕ → Effect → Bool
+ends viewer (Quit nick text) = same nick viewer
+ends viewer other = false
+
+-- one effect by which a user neither joins a channel, nor is invited to it, nor leaves
+pub record LeavesOutside (viewer channel : List ℕ) (room : Room) (effect : Effect) : Type 0 where
+  pub possible : IsPossible room effect
+  pub not_for_it : is_in channel effect ≡ true → is_for viewer effect ≡ false
+  pub not_its_end : ends viewer effect ≡ false
+
+-- and each of some effects, under whatever nickname it has
+abbrev pub LeaveOutside : List ℕ → List ℕ → Room → List Effect → Type 0
+LeaveOutside viewer channel room [] = ⊤
+LeaveOutside viewer channel room (effect ∷ effects) =
+    IsSoFirst (LeavesOutside viewer channel room effect)
+    (LeaveOutside (nick_after viewer effect) channel (after room effect) effects)
 
 -- the effects that are not in a channel
 abbrev pub others_than : List ℕ → List Effect → List Effect

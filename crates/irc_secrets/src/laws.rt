@@ -2,7 +2,8 @@
 
 ghost use Rattle.irc_secrets.specs.Laws.{BothStayAlike, ButForIsEquivalence, ChannelShowsNothing};
 ghost use Rattle.irc_secrets.specs.Laws.{InvitedIsShown, JoinerIsShown, ListsShowAlike};
-ghost use Rattle.irc_secrets.specs.Laws.{OneStaysAlike, OthersShowAlike, OutsiderStaysOutside};
+ghost use Rattle.irc_secrets.specs.Laws.{OneStaysAlike, OthersShowAlike};
+ghost use Rattle.irc_secrets.specs.Laws.{OutsideFromTheStart, OutsiderStaysOutside, SharesAlike};
 
 use irc_effects::laws as room_laws;
 
@@ -34,13 +35,22 @@ pub fn invited_and_joiner_are_shown()
 /// Any other effect shows one who is no member the same line, whatever the channel is, and also
 /// where a member of it takes another nickname or leaves.
 pub fn others_show_alike()
-    ensures { OthersShowAlike }
+    ensures shared { SharesAlike }
+    ensures shown { OthersShowAlike }
 {}
 
 /// A user outside of a secret channel stays so while nothing is done in that channel.
 pub fn outsider_stays_outside()
     ensures { OutsiderStaysOutside }
 {}
+
+/// Whoever is outside of a channel at the start stays so, if it neither joins, nor is invited, nor
+/// leaves.
+pub fn outside_from_the_start()
+    ensures { OutsideFromTheStart }
+{
+    room_laws::after_is_well_formed();
+}
 
 /// What is done in a channel, and how much, changes no line of one who stays outside of it.
 pub fn lists_show_alike()
