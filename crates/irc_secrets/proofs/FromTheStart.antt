@@ -28,7 +28,7 @@ use Rattle.irc_effects.specs.Laws.{AfterIsWellFormed}
 use Rattle.irc_effects.specs.Lemmas.Members.{is_member_of, joined_said, left_said}
 use Rattle.irc_effects.specs.Lemmas.Members.{member_changed_modes}
 use Rattle.irc_secrets.specs.ButForOne.{IsNoMember}
-use Rattle.irc_secrets.specs.Outside.{is_in, is_for, nick_after, ends, LeaveOutside, StaysOutside}
+use Rattle.irc_secrets.specs.Outside.{is_in, is_for, nick_after, ends}
 use Rattle.irc_secrets.specs.Laws.{OutsideFromTheStart}
 use Rattle.irc_secrets.proofs.Unlike.{not_both}
 use Rattle.irc_secrets.proofs.StillOutside.{still_no_member}

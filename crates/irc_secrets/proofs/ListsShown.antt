@@ -1,6 +1,6 @@
 -- What effects show, one after another, to one who stays outside of a channel, is what those that
 -- are not in it show in the room without it.
-use Rattle.std.proofs.Common.{◌≡◌, ℕ, Bool, true, false, cond, not, Option, None, List, [], ◌∷◌}
+use Rattle.std.proofs.Common.{◌≡◌, ℕ, Bool, true, false, cond, not, None, List, [], ◌∷◌}
 use Rattle.std.proofs.Common.{◌++◌, refl, sym, ◌∙◌, ap, if◌then◌else◌, option_to_list}
 use Rattle.std.specs.Prelude.{◌≢◌}
 use Rattle.std.specs.Option.{option_map_or}
@@ -8,14 +8,12 @@ use Rattle.irc_names.specs.Fold.{key}
 use Rattle.irc_names.specs.Tables.{row, alter}
 use Rattle.irc_names.specs.TableLaws.{same_fold, same_fold-refl, same_table, row-alter}
 use Rattle.irc_names.specs.TableLaws.{row-alter_same}
-use Rattle.irc_channels.specs.declared.channel.Channel.{Channel}
 use Rattle.irc_channels.specs.Channels.{has_member}
 use Rattle.irc_effects.specs.declared.effect.Effect.{Effect}
 use Rattle.irc_effects.specs.declared.effect.Effect.TheVariants.{Rename}
 use Rattle.irc_effects.specs.Room.{Room, IsWellFormed}
 use Rattle.irc_effects.specs.After.{after}
 use Rattle.irc_effects.specs.Laws.{AfterIsWellFormed}
-use Rattle.irc_effects.specs.Viewers.{shows_to}
 use Rattle.irc_secrets.specs.ButForOne.{AreAlikeButFor, without}
 use Rattle.irc_secrets.specs.Outside.{is_in, nick_after, lines_to, StaysOutside, others_than}
 use Rattle.irc_secrets.specs.Laws.{ListsShowAlike}

@@ -17,7 +17,6 @@ use Rattle.irc_effects.specs.declared.effect.Effect.TheVariants.{ChangeModes, Se
 use Rattle.irc_effects.specs.declared.effect.Target.TheVariants as target
 use Rattle.irc_effects.specs.Room.{Room, IsWellFormed}
 use Rattle.irc_effects.specs.Effects.{IsPossible, has_channel, is_member, is_idle, needs_channel}
-use Rattle.irc_effects.specs.Effects.{brings_free}
 use Rattle.irc_effects.specs.Seen.{sees, shown_line, share_channel, stored_channel, stored_nick}
 use Rattle.irc_effects.specs.Seen.{line_from, from_nick, from_by, changes_words}
 use Rattle.irc_effects.specs.Viewers.{line_for, shows_to}

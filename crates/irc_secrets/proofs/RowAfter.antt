@@ -1,5 +1,5 @@
 -- What an effect that is not in a channel makes of that channel's row.
-use Rattle.std.proofs.Common.{◌≡◌, ℕ, Bool, true, false, Option, Some, None, List, refl, sym, ◌∙◌, ap}
+use Rattle.std.proofs.Common.{◌≡◌, ℕ, false, Option, Some, None, List, refl, sym, ◌∙◌, ap}
 use Rattle.std.proofs.Common.{unwrap_or, option_map}
 use Rattle.std.specs.Option.{option_and_then}
 use Rattle.irc_names.specs.Fold.{key, same}

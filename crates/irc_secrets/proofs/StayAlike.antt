@@ -13,15 +13,13 @@ use Rattle.irc_names.specs.TableLaws.{row-each}
 use Rattle.irc_channels.specs.declared.channel.Channel.{Channel}
 use Rattle.irc_channels.specs.Channels.{new_channel, joined, left, without_user, renamed}
 use Rattle.irc_channels.specs.Channels.{invited_too, with_topic, all_changed}
-use Rattle.irc_effects.specs.declared.effect.Effect.{Effect}
 use Rattle.irc_effects.specs.declared.effect.Effect.TheVariants.{AddUser, Rename, Quit, Join, Part}
 use Rattle.irc_effects.specs.declared.effect.Effect.TheVariants.{Kick, ChangeModes, SetTopic, Say}
 use Rattle.irc_effects.specs.declared.effect.Effect.TheVariants.{Invite, ChangeUser}
 use Rattle.irc_effects.specs.declared.effect.Target.TheVariants as target
 use Rattle.irc_effects.specs.Room.{Room}
 use Rattle.irc_effects.specs.After.{after}
-use Rattle.irc_secrets.specs.ButForOne.{AreAlikeButFor, without}
-use Rattle.irc_secrets.specs.Outside.{is_in}
+use Rattle.irc_secrets.specs.ButForOne.{AreAlikeButFor}
 use Rattle.irc_secrets.specs.Laws.{ButForIsEquivalence, BothStayAlike, OneStaysAlike}
 use Rattle.irc_secrets.proofs.Unlike.{not_one_fold}
 

@@ -6,7 +6,7 @@ use Rattle.std.specs.Option.{option_and_then, option_map_or}
 use Rattle.std.specs.FinMap.{keys}
 use Rattle.irc_names.specs.Fold.{key, same}
 use Rattle.irc_names.specs.FoldLaws.{same-tells}
-use Rattle.irc_names.specs.Tables.{row, alter, moved}
+use Rattle.irc_names.specs.Tables.{row, alter}
 use Rattle.irc_names.specs.TableLaws.{same_fold, one_fold, same_fold-refl}
 use Rattle.irc_modes.specs.Modes.{is_nil}
 use Rattle.irc_modes.specs.Raised.{is_secret}
@@ -18,7 +18,7 @@ use Rattle.irc_effects.specs.Room.{Room, IsWellFormed}
 use Rattle.irc_effects.specs.Effects.{IsPossible, has_user}
 use Rattle.irc_effects.specs.After.{after}
 use Rattle.irc_effects.specs.Lemmas.Members.{is_member_of, member_while, taken_out, moved_row}
-use Rattle.irc_secrets.specs.ButForOne.{IsNoMember, IsOutsider}
+use Rattle.irc_secrets.specs.ButForOne.{IsNoMember}
 use Rattle.irc_secrets.specs.Outside.{is_in, nick_after}
 use Rattle.irc_secrets.specs.Laws.{OutsiderStaysOutside}
 use Rattle.irc_secrets.proofs.Unlike.{not_both}
