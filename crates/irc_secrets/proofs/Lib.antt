@@ -6,3 +6,5 @@ pub mod RowAfter
 pub mod StillOutside
 pub mod ListsShown
 pub mod FromTheStart
+pub mod SeenSo
+pub mod OutsidersShown

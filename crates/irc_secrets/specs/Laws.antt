@@ -1,5 +1,5 @@
--- What effects show of a channel to a user outside of it. Of none of these laws the channel has to
--- be secret: an effect is shown to members, and so they hold of any.
+-- What effects show of a channel to a user outside of it. An effect is shown to members: so what is
+-- said here of who is no member holds of each channel, secret or not.
 use Rattle.std.specs.Prelude.{◌≡◌, ◌↔◌, ℕ, Bool, true, false, Some, None, List, [], ◌∷◌, codes}
 use Rattle.irc_names.specs.Fold.{key}
 use Rattle.irc_names.specs.Tables.{row}
@@ -13,8 +13,8 @@ use Rattle.irc_effects.specs.After.{after}
 use Rattle.irc_effects.specs.Seen.{full_sender, share_channel, stored_channel}
 use Rattle.irc_effects.specs.Viewers.{shows_to}
 use Rattle.irc_secrets.specs.ButForOne.{AreAlikeButFor, without, IsNoMember, IsOutsider}
-use Rattle.irc_secrets.specs.Outside.{is_in, is_for, nick_after, lines_to, StaysOutside}
-use Rattle.irc_secrets.specs.Outside.{LeaveOutside, others_than}
+use Rattle.irc_secrets.specs.Outside.{is_in, is_for, nick_after, lines_seen, lines_to}
+use Rattle.irc_secrets.specs.Outside.{StaysOutside, LeaveOutside, others_than}
 
 -- A room is alike to itself but for a channel, and so is it to the room without that channel; two
 -- rooms are so whichever is named first, and two that are so with a third.
@@ -24,7 +24,8 @@ pub record ButForIsEquivalence : Type 0 where
       → AreAlikeButFor channel other one
   pub joined : (channel : List ℕ) (one other third : Room) → AreAlikeButFor channel one other
       → AreAlikeButFor channel other third → AreAlikeButFor channel one third
-  pub taken_out : (channel : List ℕ) (room : Room) → AreAlikeButFor channel room (without channel room)
+  pub taken_out : (channel : List ℕ) (room : Room)
+      → AreAlikeButFor channel room (without channel room)
 
 -- an effect in a channel shows nothing to one who is no member, but for a Join its doer, and for an
 -- Invite the invited
@@ -77,6 +78,18 @@ OthersShowAlike = (channel viewer : List ℕ) (one other : Room) (effect : Effec
     → IsNoMember viewer channel other → is_in channel effect ≡ false
     → IsShownAlike viewer one other effect
 
+-- The same of a user's lines among all that is seen: none of what is in the channel, and the same of
+-- what is not.
+pub record AreSeenSo : Type 0 where
+  pub channel_not : (channel viewer : List ℕ) (room : Room) (effect : Effect) → IsWellFormed room
+      → IsNoMember viewer channel room → is_in channel effect ≡ true → is_for viewer effect ≡ false
+      → lines_seen viewer room effect ≡ []
+  pub others_alike : (channel viewer : List ℕ) (one other : Room) (effect : Effect)
+      → IsWellFormed one → IsWellFormed other → AreAlikeButFor channel one other
+      → IsNoMember viewer channel one → IsNoMember viewer channel other
+      → is_in channel effect ≡ false
+      → lines_seen viewer one effect ≡ lines_seen viewer other effect
+
 -- two rooms stay alike but for a channel, whatever is done in both
 abbrev pub BothStayAlike : Type 0
 BothStayAlike = (channel : List ℕ) (one other : Room) (effect : Effect)
@@ -109,5 +122,16 @@ abbrev pub ListsShowAlike : Type 0
 ListsShowAlike = (channel viewer : List ℕ) (one other : Room) (effects others : List Effect)
     → IsWellFormed one → IsWellFormed other → AreAlikeButFor channel one other
     → StaysOutside viewer channel one effects → StaysOutside viewer channel other others
+    → others_than channel effects ≡ others_than channel others
+    → lines_to viewer one effects ≡ lines_to viewer other others
+
+-- So one of the users who is a member in neither room at the start, and then neither joins, nor is
+-- invited, nor leaves, is shown the same lines by both.
+abbrev pub OutsidersAreShownAlike : Type 0
+OutsidersAreShownAlike =
+    (channel viewer : List ℕ) (one other : Room) (effects others : List Effect) → IsWellFormed one
+    → IsWellFormed other → AreAlikeButFor channel one other → has_user one viewer ≡ true
+    → IsNoMember viewer channel one → IsNoMember viewer channel other
+    → LeaveOutside viewer channel one effects → LeaveOutside viewer channel other others
     → others_than channel effects ≡ others_than channel others
     → lines_to viewer one effects ≡ lines_to viewer other others

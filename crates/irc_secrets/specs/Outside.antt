@@ -1,6 +1,6 @@
 -- Which effects are in one channel, and what effects show to a user, one after another.
 use Rattle.std.specs.Prelude.{◌≡◌, ℕ, Bool, true, false, not, Option, Some, None, List, [], ◌∷◌}
-use Rattle.std.specs.Prelude.{◌++◌, ⊤, filter, option_to_list, if◌then◌else◌}
+use Rattle.std.specs.Prelude.{◌++◌, ⊤, map, filter, option_to_list, if◌then◌else◌}
 use Rattle.std.specs.Option.{option_map_or}
 use Rattle.irc_names.specs.Fold.{same}
 use Rattle.irc_effects.specs.declared.effect.Effect.{Effect}
@@ -11,6 +11,7 @@ use Rattle.irc_effects.specs.Room.{Room}
 use Rattle.irc_effects.specs.Effects.{IsPossible}
 use Rattle.irc_effects.specs.After.{after}
 use Rattle.irc_effects.specs.InTurn.{IsSoFirst}
+use Rattle.irc_effects.specs.Seen.{Showing, seen}
 use Rattle.irc_effects.specs.Viewers.{shows_to}
 use Rattle.irc_secrets.specs.ButForOne.{IsNoMember}
 
@@ -35,6 +36,11 @@ abbrev pub is_for : List ℕ → Effect → Bool
 is_for viewer (Join nick channel op) = same nick viewer
 is_for viewer (Invite by nick channel) = same nick viewer
 is_for viewer other = false
+
+-- the lines of one user among all that is seen
+abbrev pub lines_seen : List ℕ → Room → Effect → List (List ℕ)
+lines_seen viewer room effect = map (λ (s : Showing). s.line)
+    (filter (λ (s : Showing). same s.viewer viewer) (seen room effect))
 
 -- a user's nickname after an effect
 abbrev pub nick_after : List ℕ → Effect → List ℕ

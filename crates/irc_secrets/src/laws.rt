@@ -1,9 +1,10 @@
 //! What effects show of a channel to a user outside of it.
 
-ghost use Rattle.irc_secrets.specs.Laws.{BothStayAlike, ButForIsEquivalence, ChannelShowsNothing};
-ghost use Rattle.irc_secrets.specs.Laws.{InvitedIsShown, JoinerIsShown, ListsShowAlike};
-ghost use Rattle.irc_secrets.specs.Laws.{OneStaysAlike, OthersShowAlike};
-ghost use Rattle.irc_secrets.specs.Laws.{OutsideFromTheStart, OutsiderStaysOutside, SharesAlike};
+ghost use Rattle.irc_secrets.specs.Laws.{AreSeenSo, BothStayAlike, ButForIsEquivalence};
+ghost use Rattle.irc_secrets.specs.Laws.{ChannelShowsNothing, InvitedIsShown, JoinerIsShown};
+ghost use Rattle.irc_secrets.specs.Laws.{ListsShowAlike, OneStaysAlike, OthersShowAlike};
+ghost use Rattle.irc_secrets.specs.Laws.{OutsideFromTheStart, OutsiderStaysOutside};
+ghost use Rattle.irc_secrets.specs.Laws.{OutsidersAreShownAlike, SharesAlike};
 
 use irc_effects::laws as room_laws;
 
@@ -39,6 +40,13 @@ pub fn others_show_alike()
     ensures shown { OthersShowAlike }
 {}
 
+/// So it is of a user's lines among all that is seen.
+pub fn all_is_seen_so()
+    ensures { AreSeenSo }
+{
+    room_laws::one_viewers_lines();
+}
+
 /// A user outside of a secret channel stays so while nothing is done in that channel.
 pub fn outsider_stays_outside()
     ensures { OutsiderStaysOutside }
@@ -55,6 +63,13 @@ pub fn outside_from_the_start()
 /// What is done in a channel, and how much, changes no line of one who stays outside of it.
 pub fn lists_show_alike()
     ensures { ListsShowAlike }
+{
+    room_laws::after_is_well_formed();
+}
+
+/// So it is of whoever is outside at the start, and neither joins, nor is invited, nor leaves.
+pub fn outsiders_are_shown_alike()
+    ensures { OutsidersAreShownAlike }
 {
     room_laws::after_is_well_formed();
 }
