@@ -1,5 +1,5 @@
--- What an effect that is not in a channel is, and shows, in two rooms that are alike but for it: the
--- users of both may be taken for one table, and only the rows of channels differ.
+-- What an effect that is not in a channel is, and shows, in two rooms that are alike but for it:
+-- the users of both may be taken for one table, and only the rows of channels differ.
 use Rattle.std.proofs.Common.{◌≡◌, ℕ, Bool, true, false, not, ◌&&◌, ◌||◌, Option, Some, None, List}
 use Rattle.std.proofs.Common.{[], ◌∷◌, codes, refl, sym, ◌∙◌, ap, subst, if◌then◌else◌, is_some}
 use Rattle.std.specs.Prelude.{◌≢◌}
@@ -146,7 +146,8 @@ module _ (channel viewer : List ℕ) (one : Room) (channels : Table Channel) whe
       nick_free = possible.nick_free;
     }
 
-    module _ (out : IsNoMember viewer channel one) (other_out : IsNoMember viewer channel other) where
+    module _ (out : IsNoMember viewer channel one)
+        (other_out : IsNoMember viewer channel other) where
       sees_same : (effect : Effect) (stored : List ℕ) → is_in channel effect ≡ false
           → key stored ≡ key viewer → sees one effect stored ≡ sees other effect stored
       sees_same (Rename nick new) stored two named = ap (λ b. same nick stored || b)

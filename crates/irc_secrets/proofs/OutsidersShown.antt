@@ -1,5 +1,5 @@
 -- Who is outside of a channel at the start is shown the same lines.
-use Rattle.std.proofs.Common.{◌≡◌, sym, ◌∙◌, ap, is_some}
+use Rattle.std.proofs.Common.{sym, ◌∙◌, ap, is_some}
 use Rattle.irc_names.specs.Fold.{key}
 use Rattle.irc_names.specs.Tables.{row}
 use Rattle.irc_effects.specs.Laws.{AfterIsWellFormed}

@@ -1,5 +1,5 @@
 -- A user's lines among all that is seen are those that it is shown.
-use Rattle.std.proofs.Common.{◌≡◌, sym, ◌∙◌, ap, option_to_list}
+use Rattle.std.proofs.Common.{sym, ◌∙◌, ap, option_to_list}
 use Rattle.irc_effects.specs.Viewers.{OneViewersLines}
 use Rattle.irc_secrets.specs.Laws.{AreSeenSo}
 use Rattle.irc_secrets.proofs.Shown.{channel_shows_nothing}

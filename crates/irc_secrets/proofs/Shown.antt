@@ -1,5 +1,5 @@
--- What an effect in a channel shows to one who is no member, from what it shows to users as they are
--- stored.
+-- What an effect in a channel shows to one who is no member, from what it shows to users as they
+-- are stored.
 use Rattle.std.proofs.Common.{◌≡◌, ℕ, Bool, true, false, not, ◌&&◌, ◌||◌, Option, Some, None, List}
 use Rattle.std.proofs.Common.{[], ◌∷◌, codes, nat_eq, refl, sym, ◌∙◌, ap, if◌then◌else◌, option_map}
 use Rattle.std.proofs.Math.Bool.{and-false}

@@ -1,5 +1,5 @@
--- Rooms stay alike but for a channel: each effect makes the row at a fold of the row that was there,
--- and one that is in a channel changes that row alone.
+-- Rooms stay alike but for a channel: each effect makes the row at a fold of the row that was
+-- there, and one that is in a channel changes that row alone.
 use Rattle.std.proofs.Common.{◌≡◌, ℕ, Bool, true, false, cond, Option, Some, None, List, refl, sym}
 use Rattle.std.proofs.Common.{◌∙◌, ap, unwrap_or, option_map}
 use Rattle.std.specs.Prelude.{◌≢◌}

@@ -78,8 +78,8 @@ OthersShowAlike = (channel viewer : List ℕ) (one other : Room) (effect : Effec
     → IsNoMember viewer channel other → is_in channel effect ≡ false
     → IsShownAlike viewer one other effect
 
--- The same of a user's lines among all that is seen: none of what is in the channel, and the same of
--- what is not.
+-- It is so of a user's lines among all that is seen: none of what is in the channel, and the same
+-- of what is not.
 pub record AreSeenSo : Type 0 where
   pub channel_not : (channel viewer : List ℕ) (room : Room) (effect : Effect) → IsWellFormed room
       → IsNoMember viewer channel room → is_in channel effect ≡ true → is_for viewer effect ≡ false
@@ -109,15 +109,15 @@ OutsiderStaysOutside = (viewer channel : List ℕ) (room : Room) (effect : Effec
     → IsOutsider viewer channel room → is_in channel effect ≡ false
     → IsOutsider (nick_after viewer effect) channel (after room effect)
 
--- One of the users who is no member at the start, and then neither joins, nor is invited, nor leaves,
--- stays outside of the channel, whatever else is done in it.
+-- One of the users who is no member at the start, and then neither joins, nor is invited, nor
+-- leaves, stays outside of the channel, whatever else is done in it.
 abbrev pub OutsideFromTheStart : Type 0
 OutsideFromTheStart = (viewer channel : List ℕ) (room : Room) (effects : List Effect)
     → IsWellFormed room → has_user room viewer ≡ true → IsNoMember viewer channel room
     → LeaveOutside viewer channel room effects → StaysOutside viewer channel room effects
 
--- Two lists of effects that are one list once those in the channel are left out show the same lines,
--- in order, to one who is outside of it all along.
+-- Two lists of effects that are one list once those in the channel are left out show the same
+-- lines, in order, to one who is outside of it all along.
 abbrev pub ListsShowAlike : Type 0
 ListsShowAlike = (channel viewer : List ℕ) (one other : Room) (effects others : List Effect)
     → IsWellFormed one → IsWellFormed other → AreAlikeButFor channel one other
