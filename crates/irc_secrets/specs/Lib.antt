@@ -1,0 +1,3 @@
+pub mod ButForOne
+pub mod Outside
+pub mod Laws
